@@ -1,0 +1,25 @@
+-- Histories. The model of the store is one fold for each key: it has no memtable, tree or branch.
+use Rattle.std.specs.Prelude.{ℕ, List, [], ◌∷◌, take, flat_map, None, if◌then◌else◌}
+use Rattle.spl_message.specs.declared.message.Message.{Message}
+use Rattle.spl_message.specs.declared.call.Call.{Call}
+use Rattle.spl_message.specs.declared.call.Call.TheVariants.{Put, Look}
+use Rattle.spl_message.specs.Cell.{Cell, act_all}
+use Rattle.spl_message.specs.Key.{same_key}
+
+-- a call with the actor that made it
+pub record Event : Type 0 where
+  pub actor : ℕ
+  pub call : Call
+
+-- all calls, in the order of their places; a place is a position, counted from 0
+abbrev pub History : Type 0
+History = List Event
+
+-- the messages that a call puts to a key
+abbrev pub messages_to : List ℕ → Call → List Message
+messages_to key (Put other message) = if same_key other key then message ∷ [] else []
+messages_to key (Look other) = []
+
+-- the cell of a key at a place: what the messages of the calls above it make of no value, in their order
+abbrev pub cell_at : History → ℕ → List ℕ → Cell
+cell_at history place key = act_all key None (flat_map (λ event. messages_to key event.call) (take place history))

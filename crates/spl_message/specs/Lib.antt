@@ -1,0 +1,5 @@
+pub mod Answer
+pub mod Cell
+pub mod History
+pub mod Key
+pub mod Room

@@ -1,0 +1,25 @@
+ghost use Rattle.std.specs.Prelude.{◌≡◌, IfOk};
+
+use crate::value::Value;
+use spl_base::NoMemory;
+
+/// What a write leaves for a key.
+#[derive(Debug, PartialEq, Eq, Drop)]
+pub enum Message {
+    /// The key has this value from now on.
+    Insert(Value),
+    /// The key has no value from now on.
+    Delete,
+}
+
+impl Message {
+    /// An equal message in memory of its own.
+    pub fn copy(&self) -> Result<Message, NoMemory>
+        ensures ok { IfOk result (λ message. message ≡ self.now) }
+    {
+        match self {
+            Message::Insert(value) => Ok(Message::Insert(value.copy()?)),
+            Message::Delete => Ok(Message::Delete),
+        }
+    }
+}
