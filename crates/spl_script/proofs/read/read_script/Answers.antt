@@ -1,0 +1,38 @@
+use Rattle.std.proofs.Common.{◌≡◌, ◌+◌, ◌-◌, ◌≤◌, ◌<◌, ℕ, arith, eqb, sym, ap, ◌∙◌, length, length-append}
+use Rattle.std.proofs.lemmas.List.Elements.{All-push}
+use Rattle.spl_script.specs.declared.script.ScriptLine.{ScriptLine}
+use Rattle.spl_script.proofs.Lines.{nothing_read, line_read, fault_told}
+use Rattle.spl_script.proofs.read.read_script.Goals as goal
+
+pub loop-after-init : goal.loop-after-init
+loop-after-init c = record {
+  whole = c.within_limit-whole.ensures;
+  within = omega arith;
+  numbers = rw c.new-lines.ensures.items (omega arith);
+  few = rw c.new-lines.ensures.items (omega arith);
+  callers = rw c.new-lines.ensures.items (λ k d none. absurd (omega arith));
+  read = nothing_read c.args.callers c.args.bytes.now c.within_limit-whole.result.now c.new-lines.result.items c.new-lines.ensures.items c.within_limit-whole.ensures;
+}
+
+pub returns-in-Err-clause-exact : goal.returns-in-Err-clause-exact
+returns-in-Err-clause-exact c =
+    let parts = rw c.in-Some.is at c.first_part.ensures.parts in
+    let lengths = rw c.in-Some.is at c.first_part.ensures.lengths in
+    fault_told c.args.callers c.loop-after.number _ _ c.loop-after.lines.items c.in-Err.fault c.first_part.result.0.now (λ byte. eqb byte 10) c.in-Some.after.now _ _
+    parts (omega (arith, lengths, c.loop-after.invariant.within)) c.in-Err.ensures.value c.loop-after.invariant.read
+
+pub loop-after-preserved : goal.loop-after-preserved
+loop-after-preserved c =
+    let parts = rw c.in-Some.is at c.first_part.ensures.parts in
+    let lengths = rw c.in-Some.is at c.first_part.ensures.lengths in
+    let items = c.in_ok-push-in-Ok.ensures.items in
+    let count : length c.push.new.self.items ≡ length c.loop-after.lines.items + 1 = ap length items ∙ length-append c.loop-after.lines.items _ in
+    record {
+      whole = c.loop-after.invariant.whole;
+      within = omega (arith, lengths, c.loop-after.invariant.within);
+      numbers = omega (arith, count, c.loop-after.invariant.numbers);
+      few = omega (arith, count, c.loop-after.invariant.numbers, c.in-Ok.ensures.near);
+      callers = rw items (All-push (λ (line : ScriptLine). line.caller < c.args.callers) c.loop-after.lines.items c.in-Ok.line c.loop-after.invariant.callers c.in-Ok.ensures.below);
+      read = rw items (sym (line_read c.args.callers c.loop-after.number _ _ c.loop-after.lines.items c.in-Ok.line c.first_part.result.0.now (λ byte. eqb byte 10) c.in-Some.after.now _
+          parts (omega (arith, lengths, c.loop-after.invariant.within)) c.in-Ok.ensures.value) ∙ c.loop-after.invariant.read);
+    }

@@ -1,0 +1,18 @@
+use Rattle.std.proofs.Common.{◌≡◌, ◌+◌, ◌-◌, ◌<◌, ◌≤◌, ℕ, eqb, take, length}
+use Rattle.std.specs.List.{slice_split, All}
+use Rattle.spl_script.specs.Script.{script_text, lines_from}
+use Rattle.spl_script.proofs.Lines.{behind}
+use Rattle.spl_script.proofs.read.read_script.Given as goal
+
+abbrev pub invariant-loop-after : goal.invariant-loop-after
+invariant-loop-after l = record {
+  whole : l.whole ≡ take 16777217 l.fn.bytes;
+  within : length l.rest ≤ length l.whole;
+  numbers : l.number ≡ length l.lines.items + 1;
+  few : length l.lines.items ≤ 500000;
+  callers : All (λ line. line.caller < l.callers) l.lines.items;
+  read : behind l.lines.items (lines_from l.callers l.number (length l.whole - length l.rest) (slice_split (λ byte. eqb byte 10) l.rest)) ≡ script_text l.callers l.fn.bytes;
+}
+
+abbrev pub decreases-loop-after : goal.decreases-loop-after
+decreases-loop-after l = length l.rest

@@ -1,0 +1,4 @@
+pub mod Field
+pub mod Line
+pub mod Reading
+pub mod Script

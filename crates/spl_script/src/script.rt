@@ -1,0 +1,62 @@
+ghost use Rattle.std.specs.Prelude.{◌≡◌, ◌≤◌, length};
+
+use spl_message::Call;
+use std::marker::Model;
+
+/// What a line asks for.
+#[derive(Debug, PartialEq, Eq, Drop)]
+pub enum Deed {
+    /// One call: a put or a lookup.
+    One(Call),
+}
+
+/// A line of a script: who does what.
+#[derive(Debug, PartialEq, Eq, Drop)]
+pub struct ScriptLine {
+    pub caller: u32,
+    pub deed: Deed,
+}
+
+/// The lines of a script, in their order; at most 500,000. A caller's script is the lines with its number. A clause sees the
+/// list of the lines.
+#[derive(Debug, Drop)]
+pub struct Scripts {
+    lines: Vec<ScriptLine>,
+}
+
+impl Model for Scripts {
+    ghost use Rattle.std.specs.Prelude.{◌≤◌, List, length};
+    ghost use Rattle.spl_script.specs.declared.script.ScriptLine.{ScriptLine};
+
+    ghost Value = { List ScriptLine };
+
+    ghost view = { λ s. s.lines.items };
+
+    ghost invariant = { λ s. length s.lines.items ≤ 500000 };
+}
+
+impl Scripts {
+    /// The script of these lines, which takes no memory.
+    pub fn of(lines: Vec<ScriptLine>) -> Scripts
+        requires { length lines.items ≤ 500000 }
+        ensures { result ≡ lines.items }
+    {
+        Scripts { lines }
+    }
+
+    /// The lines, in their order.
+    pub fn lines(&self) -> &[ScriptLine]
+        ensures value { result.now ≡ self.now }
+        ensures small { length self.now ≤ 500000 }
+    {
+        self.lines.as_slice()
+    }
+
+    /// The lines in a `Vec` again, which takes no memory.
+    pub fn into_lines(self) -> Vec<ScriptLine>
+        ensures { result.items ≡ self }
+    {
+        let Scripts { lines } = self;
+        lines
+    }
+}
