@@ -1,4 +1,4 @@
-ghost use Rattle.std.specs.Prelude.{None};
+ghost use Rattle.std.specs.Prelude.{Some};
 
 use crate::{
     Failed, MemSink, MemSource, ReadFault, Sink, Source, StdSink, StdSource, read_whole,

@@ -1,4 +1,4 @@
-use Rattle.std.proofs.Common.{◌≡◌, ◌≤◌, ◌<◌, vec_len, ◌-◌, min, length}
+use Rattle.std.proofs.Common.{◌≡◌, ◌≤◌, vec_len, ◌-◌, min}
 use Rattle.spl_port.specs.Bytes.{Gives}
 use Rattle.spl_port.proofs.whole.read_whole.Given as goal
 
