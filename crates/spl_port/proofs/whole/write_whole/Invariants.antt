@@ -1,0 +1,11 @@
+use Rattle.std.proofs.Common.{length, take, ◌-◌, ◌≡◌, ◌≤◌}
+use Rattle.spl_port.specs.Bytes.{Takes}
+use Rattle.spl_port.proofs.whole.write_whole.Given as goal
+
+abbrev pub invariant-loop-at : goal.invariant-loop-at
+invariant-loop-at g l =
+    (l.at ≤ length l.text) × Takes (g.O.Sink.held l.fn.out) (g.O.Sink.held l.out) (take l.at l.text)
+    × (g.O.Sink.faults l.out ≡ g.O.Sink.faults l.fn.out)
+
+abbrev pub decreases-loop-at : goal.decreases-loop-at
+decreases-loop-at g l = length l.text - l.at

@@ -1,0 +1,7 @@
+pub mod Bytes
+pub mod Counts
+pub mod MemSink
+pub mod MemSource
+pub mod Plan
+pub mod StdSink
+pub mod StdSource

@@ -1,0 +1,94 @@
+ghost use Rattle.std.specs.Prelude.{◌≡◌, ◌≤◌, ◌<◌, ◌↔◌, ◌++◌, ◌-◌, [], Some, IsTrue, IsErr, IfOk, OnOk, OnErr, true, false, length, take, min};
+ghost use Rattle.spl_port.specs.Bytes.{Takes};
+ghost use Rattle.spl_port.specs.Counts.{Rose};
+
+use crate::schedule::Schedule;
+use crate::{Failed, Sink};
+use spl_base::NoMemory;
+use std::alloc::Global;
+use std::marker::Model;
+
+/// Bytes in memory as a sink, of which chosen writes fail. Its memory is taken at once.
+///
+/// In a clause it is the bytes that it holds, the room that is left, and the plan of its writes, which
+/// are its calls.
+#[derive(Debug, Drop)]
+pub struct MemSink {
+    bytes: Vec<u8>,
+    room: usize,
+    schedule: Schedule,
+}
+
+impl Model for MemSink {
+    ghost use Rattle.std.specs.Prelude.{◌+◌, ◌≤◌, vec_len, vec_capacity};
+    ghost use Rattle.spl_port.specs.MemSink.{Shelf};
+
+    ghost Value = { Shelf };
+
+    ghost view = { λ s. record { held = s.bytes.items; room = s.room; plan = s.schedule } };
+
+    ghost invariant = { λ s. vec_len s.bytes + s.room ≤ vec_capacity s.bytes };
+}
+
+impl MemSink {
+    ghost use Rattle.spl_port.specs.Plan.{plan_of};
+
+    /// A sink with room for so many bytes, whose writes with these numbers fail.
+    pub fn new(alloc: Global, room: u64, failing: Vec<u64>) -> Result<MemSink, NoMemory>
+        ensures { IfOk result (λ sink. sink ≡ record { held = []; room = room; plan = plan_of failing.items }) }
+    {
+        let room = room as usize;
+        Ok(MemSink {
+            bytes: Vec::with_capacity(alloc, room)?,
+            room,
+            schedule: Schedule::new(failing),
+        })
+    }
+
+    /// What was written, from the first byte on.
+    pub fn bytes(&self) -> &[u8]
+        ensures { result.now ≡ self.now.held }
+    {
+        &self.bytes
+    }
+}
+
+impl Sink for MemSink {
+    ghost use Rattle.spl_port.specs.Plan.{after_call};
+    ghost use Rattle.spl_port.specs.MemSink.{refuses};
+
+    ghost held = { λ s. Some s.held };
+
+    ghost faults = { λ s. s.plan.faults };
+
+    /// Takes the first bytes that fit. None of some is a fault.
+    fn write(&mut self, piece: &[u8]) -> Result<usize, Failed>
+        ensures refused { IsErr result ↔ IsTrue (refuses self.old piece.now) }
+        ensures count { IfOk result (λ n. n ≡ min (length piece.now) self.old.room) }
+        ensures after_ok { IfOk result (λ n. self.new ≡ record {
+          held = self.old.held ++ take n piece.now;
+          room = self.old.room - n;
+          plan = after_call self.old.plan false;
+        }) }
+        ensures after_err { OnErr result (self.new ≡ record self.old { plan = after_call self.old.plan true }) }
+
+        // What each sink keeps.
+        ensures bound { IfOk result (λ n. n ≤ length piece.now) }
+        ensures some { IfOk result (λ n. 0 < length piece.now → 0 < n) }
+        ensures ok { IfOk result (λ n. Takes (Some self.old.held) (Some self.new.held) (take n piece.now)) }
+        ensures ok_count { OnOk result (self.new.plan.faults ≡ self.old.plan.faults) }
+        ensures err { OnErr result (Some self.new.held ≡ Some self.old.held) }
+        ensures failed { OnErr result (Rose self.old.plan.faults self.new.plan.faults) }
+        ensures never_falls { self.old.plan.faults ≤ self.new.plan.faults }
+    {
+        let taken = piece.len().min(self.room);
+        let refused = self.schedule.fails() || (taken == 0 && !piece.is_empty());
+        self.schedule.count(refused);
+        if refused {
+            return Err(Failed);
+        }
+        self.bytes.extend_from_slice(&piece[..taken]).unwrap();
+        self.room -= taken;
+        Ok(taken)
+    }
+}
