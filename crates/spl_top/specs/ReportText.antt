@@ -1,5 +1,6 @@
 -- The text of a report, by cases on its rows.
-use Rattle.std.specs.Prelude.{ℕ, ◌+◌, ◌/◌, ◌%◌, ◌==◌, nat_lt, Bool, ◌&&◌, ◌||◌, not, if◌then◌else◌, List, [], ◌∷◌, ◌++◌, flat_map, codes, decimal, Option, Some, None}
+use Rattle.std.specs.Prelude.{ℕ, ◌+◌, ◌/◌, ◌%◌, ◌^◌, ◌<◌, ◌==◌, nat_lt, IfSome, Bool, ◌&&◌, ◌||◌, not, if◌then◌else◌, List, [], ◌∷◌, ◌++◌, flat_map, codes, decimal, Option, Some, None}
+use Rattle.std.specs.List.{AllByRecursion}
 use Rattle.spl_message.specs.declared.answer.Answer.{Answer}
 use Rattle.spl_message.specs.declared.answer.Answer.TheVariants.{Done, Missing, Value, Stopped}
 use Rattle.spl_message.specs.declared.answer.Cause.{Cause}
@@ -56,3 +57,24 @@ row_text row = place_text row.place ++ codes " " ++ decimal row.caller ++ codes 
 
 abbrev pub report_text : List Row → List ℕ
 report_text rows = flat_map row_text rows
+
+-- the numbers of a row are within its fields' types, and its bytes are bytes, as they are for each row that there is
+abbrev pub AreBytes : List ℕ → Type 0
+AreBytes bytes = AllByRecursion (λ byte. byte < 256) bytes
+
+abbrev pub HasCallBytes : Call → Type 0
+HasCallBytes (Put key (Insert value)) = AreBytes key × AreBytes value
+HasCallBytes (Put key Delete) = AreBytes key
+HasCallBytes (Look key) = AreBytes key
+
+abbrev pub HasAnswerBytes : Answer → Type 0
+HasAnswerBytes (Value value) = AreBytes value
+HasAnswerBytes Done = Unit {0}
+HasAnswerBytes Missing = Unit {0}
+HasAnswerBytes (Stopped cause) = Unit {0}
+
+pub record IsInRange (row : Row) : Type 0 where
+  pub place : IfSome row.place (λ place. place < 2 ^ 64)
+  pub caller : row.caller < 2 ^ 32
+  pub call : HasCallBytes row.call
+  pub answer : HasAnswerBytes row.answer

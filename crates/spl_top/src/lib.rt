@@ -10,7 +10,7 @@ mod run;
 mod store;
 mod top;
 
-pub use report::{Row, write_report};
+pub use report::{Row, one_report, write_report};
 pub use top::splinter;
 
 #[cfg(test)]

@@ -1,6 +1,8 @@
 //! The report of a run: a row for each call, each with one spelling.
 ghost use Rattle.std.specs.Prelude.{◌≡◌, ◌++◌, ℕ, List, IfOk, OnOk, decimal, ◌<◌};
-ghost use Rattle.spl_top.specs.ReportText.{is_shown, hex_digit, byte_text, text_of, place_text, call_text, cause_text, answer_text, row_text, report_text};
+ghost use Rattle.spl_top.specs.ReportText.{is_shown, hex_digit, byte_text, text_of, place_text, call_text, cause_text, answer_text, row_text, report_text, IsInRange};
+ghost use Rattle.std.specs.List.{AllByRecursion};
+ghost use Rattle.spl_top.specs.declared.report.Row.{Row};
 
 use itoa::Buffer;
 use spl_message::{Answer, Call, Cause, Message, NoMemory};
@@ -146,4 +148,10 @@ pub fn write_report(alloc: Global, rows: &[Row]) -> Result<Vec<u8>, NoMemory>
         push_row(&mut out, row)?;
     }
     Ok(out)
+}
+
+/// No two reports of rows have the same text: the law of the definition of report text.
+pub fn one_report()
+    ensures { (rows others : List Row) → AllByRecursion IsInRange rows → AllByRecursion IsInRange others → report_text rows ≡ report_text others → rows ≡ others }
+{
 }
