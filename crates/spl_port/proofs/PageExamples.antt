@@ -1,10 +1,9 @@
 -- The definition of pages at examples: the page of branch 7 that inserts `1` at `a`, and what is refused.
-use Rattle.std.proofs.Common.{◌≡◌, ℕ, Bool, true, false, List, [], ◌∷◌, ◌++◌, Option, Some, None, refl}
+use Rattle.std.proofs.Common.{◌≡◌, ℕ, true, false, List, [], ◌∷◌, ◌++◌, Some, refl}
 use Rattle.std.specs.Prelude.{replicate}
 use Rattle.spl_port.specs.declared.at.At.{At}
-use Rattle.spl_port.specs.declared.damaged.Why.{Why}
 use Rattle.spl_port.specs.declared.damaged.Why.TheVariants.{Kind, Number, Count, Entry, Order, Rest}
-use Rattle.spl_port.specs.Page.{LeafRow, IndexRow, IsLeafPage, IsIndexPage, leaf_fault, index_fault, page_fault}
+use Rattle.spl_port.specs.Page.{IsLeafPage, IsIndexPage, leaf_fault, index_fault, page_fault}
 
 -- page 0 of branch 7, a leaf page
 abbrev at : At

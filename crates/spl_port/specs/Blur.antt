@@ -10,16 +10,16 @@ IsBlur Zeros = Unit {0}
 IsBlur (Patch page patches) = All (λ patch. patch.0 < 4096) patches
 
 -- the page with these bytes set, the first one first
-abbrev pub patched : List (ℕ × ℕ) → List ℕ → List ℕ
-patched [] page = page
-patched (patch ∷ patches) page = patched patches (slice_set page patch.0 patch.1)
+abbrev pub patched_page : List (ℕ × ℕ) → List ℕ → List ℕ
+patched_page [] page = page
+patched_page (patch ∷ patches) page = patched_page patches (slice_set page patch.0 patch.1)
 
 -- what a read of the page gives, which has these bytes
-abbrev pub blurred : Blur → ℕ → List ℕ → List ℕ
-blurred Zeros page bytes = replicate 4096 0
-blurred (Patch at patches) page bytes = if at == page then patched patches bytes else bytes
+abbrev pub blurred_page : Blur → ℕ → List ℕ → List ℕ
+blurred_page Zeros page bytes = replicate 4096 0
+blurred_page (Patch at patches) page bytes = if at == page then patched_page patches bytes else bytes
 
 -- what a blurred port is in a clause: its counts, and what it gives
-pub record Haze : Type 0 where
+pub record BlurState : Type 0 where
   pub counts : Counts
   pub blur : Blur

@@ -3,12 +3,12 @@ use Rattle.std.specs.Prelude.{ℕ, List, Option, None, ◌+◌, ◌-◌, ◌^◌
 use Rattle.spl_port.specs.declared.at.At.{At}
 
 -- the count after one more
-abbrev pub raised : ℕ → ℕ
-raised count = min (count + 1) (2 ^ 64 - 1)
+abbrev pub raised_count : ℕ → ℕ
+raised_count count = min (count + 1) (2 ^ 64 - 1)
 
 -- the count rose, or stands at its last value
 abbrev pub Rose : ℕ → ℕ → Type 0
-Rose before now = raised before ≤ now
+Rose before now = raised_count before ≤ now
 
 -- the count stands at its last value
 abbrev pub IsSpent : ℕ → Type 0

@@ -5,14 +5,14 @@ use Rattle.spl_port.specs.declared.at.At.{At}
 use Rattle.spl_port.specs.Seal.{Sealed, begins_leaf}
 
 -- the extent, the branch, the number in the branch of the first page, and the pages
-pub record Stack : Type 0 where
+pub record PageStack : Type 0 where
   pub extent : ℕ
   pub branch : ℕ
   pub first : ℕ
   pub pages : List (List ℕ)
 
 -- what it means to a port that tells its pages, or does not
-abbrev pub meaning : Bool → Stack → Sealed
+abbrev pub meaning : Bool → PageStack → Sealed
 meaning tells stack = record {
   extent = stack.extent;
   branch = stack.branch;
@@ -22,7 +22,7 @@ meaning tells stack = record {
 }
 
 -- the place of a page
-abbrev pub place_of : Stack → ℕ → At
+abbrev pub place_of : PageStack → ℕ → At
 place_of stack page = record {
   extent = stack.extent;
   branch = stack.branch;

@@ -8,7 +8,7 @@
 -- | 8 to 15 | the branch's number                                |
 -- | 16 on   | the entries, one after the other, in rising order  |
 -- | rest    | zeros                                              |
-use Rattle.std.specs.Prelude.{◌≡◌, ℕ, zero, suc, ◌+◌, ◌*◌, ◌^◌, ◌==◌, nat_lt, nat_le, Bool, true, false, not, ◌&&◌, ◌||◌, if◌then◌else◌, List, [], ◌∷◌, length, take, drop, map, slice_index, Option, Some, None}
+use Rattle.std.specs.Prelude.{◌≡◌, ℕ, zero, suc, ◌+◌, ◌*◌, ◌^◌, ◌==◌, nat_lt, nat_le, Bool, true, not, ◌&&◌, ◌||◌, if◌then◌else◌, List, [], ◌∷◌, length, take, drop, map, slice_index, Option, Some, None}
 use Rattle.std.specs.List.{list_all}
 use Rattle.std.specs.Option.{option_map, option_and_then}
 use Rattle.std.specs.Ordering.{nat_cmp, is_lt}
@@ -103,20 +103,20 @@ abbrev pub index_rows : ℕ → List ℕ → Option (Rows IndexRow)
 index_rows page bytes = rows_of (index_row page) index_row_length (row_count bytes) (drop 16 bytes)
 
 -- whether the keys rise above this one, each above the one before it
-abbrev pub rise_above : List ℕ → List (List ℕ) → Bool
-rise_above last [] = true
-rise_above last (key ∷ keys) = is_lt (slice_cmp nat_cmp last key) && rise_above key keys
+abbrev pub is_rising_above : List ℕ → List (List ℕ) → Bool
+is_rising_above last [] = true
+is_rising_above last (key ∷ keys) = is_lt (slice_cmp nat_cmp last key) && is_rising_above key keys
 
 -- whether each key is above the one before it
-abbrev pub rise : List (List ℕ) → Bool
-rise [] = true
-rise (key ∷ keys) = rise_above key keys
+abbrev pub is_rising : List (List ℕ) → Bool
+is_rising [] = true
+is_rising (key ∷ keys) = is_rising_above key keys
 
 -- the first reason against the entries and what is behind them
 abbrev pub rows_fault : {R : Type 0} → (R → List ℕ) → Option (Rows R) → Option Why
 rows_fault key None = Some Entry
 rows_fault key (Some found) =
-    if not (rise (map key found.rows)) then Some Order
+    if not (is_rising (map key found.rows)) then Some Order
     else (if not (list_all (λ byte. byte == 0) found.rest) then Some Rest else None)
 
 -- the first reason why the bytes are no page of this kind for the place

@@ -1,5 +1,5 @@
 -- What the calls of a port do to its counts.
-use Rattle.std.specs.Prelude.{◌≡◌, ◌≤◌, ℕ, ◌+◌, List, Result, Err}
+use Rattle.std.specs.Prelude.{◌≡◌, ◌≤◌, ◌+◌, Result, Err}
 use Rattle.spl_port.specs.Counts.{Counts, Rose}
 use Rattle.spl_port.specs.declared.port.PortFault.{PortFault}
 use Rattle.spl_port.specs.declared.port.PortFault.TheVariants.{Failed}

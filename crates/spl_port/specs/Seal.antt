@@ -22,13 +22,13 @@ abbrev pub begins_leaf : List ℕ → Bool
 begins_leaf bytes = slice_index bytes 0 == 76
 
 -- a draft with no page yet
-abbrev pub begun : Bool → ℕ → ℕ → ℕ → Sealed
-begun tells extent branch first =
+abbrev pub empty_draft : Bool → ℕ → ℕ → ℕ → Sealed
+empty_draft tells extent branch first =
     record { extent = extent; branch = branch; first = first; leaves = []; told = if tells then Some [] else None }
 
 -- the draft with one more page
-abbrev pub appended : Sealed → List ℕ → Sealed
-appended sealed bytes = record sealed {
+abbrev pub with_page : Sealed → List ℕ → Sealed
+with_page sealed bytes = record sealed {
   leaves = sealed.leaves ++ begins_leaf bytes ∷ [];
   told = option_map (λ pages. pages ++ bytes ∷ []) sealed.told;
 }

@@ -1,5 +1,5 @@
 ghost use Rattle.std.specs.Prelude.{◌≡◌, ◌<◌, ◌^◌, All, IfOk, length, vec_len};
-ghost use Rattle.spl_port.specs.Blur.{IsBlur, blurred, patched};
+ghost use Rattle.spl_port.specs.Blur.{IsBlur, blurred_page, patched_page};
 
 use crate::{PAGE_BYTES, PageBytes};
 use spl_base::NoMemory;
@@ -29,10 +29,17 @@ impl From<Vec<(u16, u8)>> for Patches {
 }
 
 impl Patches {
+    /// The places and bytes as a `Vec`. It takes no memory.
+    pub fn into_vec(self) -> Vec<(u16, u8)>
+        ensures { result.items ≡ self }
+    {
+        self.bytes
+    }
+
     /// Sets the bytes.
     fn set(&self, page: &mut [u8])
         requires { All (λ patch. patch.0 < length page.old) self.now }
-        ensures { page.new ≡ patched self.now page.old }
+        ensures { page.new ≡ patched_page self.now page.old }
     {
         for (at, byte) in &self.bytes {
             page[*at as usize] = *byte;
@@ -58,7 +65,7 @@ impl Blur {
         bytes: &[u8; PAGE_BYTES],
     ) -> Result<PageBytes, NoMemory>
         requires { IsBlur self.now }
-        ensures { IfOk result (λ given. given ≡ blurred self.now page bytes.now) }
+        ensures { IfOk result (λ given. given ≡ blurred_page self.now page bytes.now) }
     {
         match self {
             Blur::Zeros => PageBytes::zeros(alloc),

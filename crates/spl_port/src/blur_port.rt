@@ -1,10 +1,10 @@
 ghost use Rattle.std.specs.Prelude.{◌≡◌, ◌≢◌, ◌+◌, ◌<◌, ◌≤◌, ◌^◌, [], ◌∷◌, ◌++◌, false, IfOk, OnOk, OnErr, Some};
 ghost use Rattle.std.specs.List.{slice_index_or};
-ghost use Rattle.spl_port.specs.Blur.{IsBlur, blurred};
+ghost use Rattle.spl_port.specs.Blur.{IsBlur, blurred_page};
 ghost use Rattle.spl_port.specs.Counts.{IsSpent, no_counts};
 ghost use Rattle.spl_port.specs.MemDraft.{meaning};
 ghost use Rattle.spl_port.specs.Port.{HasCause, MovesNone, ReadsOne, WritesOne};
-ghost use Rattle.spl_port.specs.Seal.{Allows, appended, begun, page_count, place};
+ghost use Rattle.spl_port.specs.Seal.{Allows, with_page, empty_draft, page_count, place};
 
 use crate::blur::Blur;
 use crate::blur_seal::BlurSeal;
@@ -26,9 +26,9 @@ pub struct BlurPort {
 }
 
 impl Model for BlurPort {
-    ghost use Rattle.spl_port.specs.Blur.{Haze, IsBlur};
+    ghost use Rattle.spl_port.specs.Blur.{BlurState, IsBlur};
 
-    ghost Value = { Haze };
+    ghost Value = { BlurState };
 
     ghost view = { λ p. record { counts = p.tally; blur = p.blur } };
 
@@ -61,7 +61,7 @@ impl Port for BlurPort {
         requires { first < 2 ^ 31 }
         ensures same { self.new ≡ self.old }
         ensures pages { result.pages ≡ [] }
-        ensures begun { meaning false result ≡ begun false extent branch first }
+        ensures begun { meaning false result ≡ empty_draft false extent branch first }
         ensures counts { self.new.counts ≡ self.old.counts }
     {
         MemDraft::new(self.alloc, extent, branch, first)
@@ -77,7 +77,7 @@ impl Port for BlurPort {
         ensures after_err { OnErr result (self.new ≡ self.old) }
 
         // What each port keeps.
-        ensures ok { OnOk result (meaning false draft.new ≡ appended (meaning false draft.old) bytes.now) }
+        ensures ok { OnOk result (meaning false draft.new ≡ with_page (meaning false draft.old) bytes.now) }
         ensures err { OnErr result (meaning false draft.new ≡ meaning false draft.old) }
         ensures counts { WritesOne self.old.counts self.new.counts }
         ensures ok_count { OnOk result (self.new.counts.writes ≡ self.old.counts.writes + 1) }
@@ -110,7 +110,7 @@ impl Port for BlurPort {
         requires { page < page_count (meaning false seal.now) }
         ensures never_fails { result ≢ Err PortFault.Failed }
         ensures given { IfOk result (λ bytes.
-            bytes ≡ blurred self.old.blur page (slice_index_or seal.now.pages page [])) }
+            bytes ≡ blurred_page self.old.blur page (slice_index_or seal.now.pages page [])) }
         ensures same { self.new.blur ≡ self.old.blur }
         ensures after_err { OnErr result (self.new ≡ self.old) }
 

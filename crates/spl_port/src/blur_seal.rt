@@ -1,5 +1,6 @@
-ghost use Rattle.std.specs.Prelude.{◌≡◌, false};
+ghost use Rattle.std.specs.Prelude.{◌≡◌, IsTrue, false};
 ghost use Rattle.spl_port.specs.MemDraft.{meaning};
+ghost use Rattle.spl_port.specs.Seal.{Allows};
 
 use crate::mem_draft::MemDraft;
 use crate::{At, PAGE_BYTES, Seal};
@@ -12,9 +13,9 @@ pub struct BlurSeal {
 }
 
 impl Model for BlurSeal {
-    ghost use Rattle.spl_port.specs.MemDraft.{Stack};
+    ghost use Rattle.spl_port.specs.MemDraft.{PageStack};
 
-    ghost Value = { Stack };
+    ghost Value = { PageStack };
 
     ghost view = { λ s. s.stack };
 }
@@ -53,7 +54,12 @@ impl Seal for BlurSeal {
     }
 
     /// Any bytes may be the page, since it is not told.
-    fn vouches(&self, _page: u32, _bytes: &[u8; PAGE_BYTES]) -> bool {
+    fn vouches(&self, _page: u32, _bytes: &[u8; PAGE_BYTES]) -> bool
+        ensures any { IsTrue result }
+
+        // What each seal keeps.
+        ensures only { IsTrue result → Allows (meaning false self.now) _page _bytes.now }
+    {
         true
     }
 }

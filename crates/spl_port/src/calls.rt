@@ -27,6 +27,13 @@ impl From<Vec<u64>> for CallNumbers {
 }
 
 impl CallNumbers {
+    /// The numbers as a `Vec`. It takes no memory.
+    pub fn into_vec(self) -> Vec<u64>
+        ensures { result.items ≡ self }
+    {
+        self.numbers
+    }
+
     /// Whether the number is one of these.
     pub(crate) fn lists(&self, number: u64) -> bool
         ensures { result ≡ list_any (λ call. call == number) self.now }

@@ -18,9 +18,9 @@ pub struct MemDraft {
 
 impl Model for MemDraft {
     ghost use Rattle.std.specs.Prelude.{◌<◌, ◌≤◌, ◌^◌, vec_len};
-    ghost use Rattle.spl_port.specs.MemDraft.{Stack};
+    ghost use Rattle.spl_port.specs.MemDraft.{PageStack};
 
-    ghost Value = { Stack };
+    ghost Value = { PageStack };
 
     ghost view = { λ d. record { extent = d.extent; branch = d.branch; first = d.first; pages = d.pages.items } };
 

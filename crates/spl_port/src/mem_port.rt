@@ -1,8 +1,8 @@
 ghost use Rattle.std.specs.Prelude.{◌≡◌, ◌+◌, ◌<◌, ◌≤◌, ◌^◌, [], true, false, IsTrue, IsErr, IfOk, OnOk, OnErr, Some};
-ghost use Rattle.spl_port.specs.Counts.{IsSpent, no_counts, raised};
+ghost use Rattle.spl_port.specs.Counts.{IsSpent, no_counts, raised_count};
 ghost use Rattle.spl_port.specs.MemDraft.{meaning};
 ghost use Rattle.spl_port.specs.Port.{HasCause, MovesNone, ReadsOne, WritesOne};
-ghost use Rattle.spl_port.specs.Seal.{Allows, appended, begun, page_count, place};
+ghost use Rattle.spl_port.specs.Seal.{Allows, with_page, empty_draft, page_count, place};
 
 use crate::calls::Calls;
 use crate::mem_draft::MemDraft;
@@ -26,9 +26,9 @@ pub struct MemPort {
 }
 
 impl Model for MemPort {
-    ghost use Rattle.spl_port.specs.MemPort.{Device};
+    ghost use Rattle.spl_port.specs.MemPort.{PortState};
 
-    ghost Value = { Device };
+    ghost Value = { PortState };
 
     ghost view = { λ p. record { counts = p.tally; calls = p.calls; made = p.made } };
 }
@@ -36,7 +36,7 @@ impl Model for MemPort {
 impl MemPort {
     ghost use Rattle.spl_port.specs.declared.calls.Calls.TheVariants.{Listed};
     ghost use Rattle.spl_port.specs.Calls.{fails};
-    ghost use Rattle.spl_port.specs.MemPort.{called};
+    ghost use Rattle.spl_port.specs.MemPort.{after_call};
 
     /// A port that never fails.
     pub fn new(alloc: Global) -> MemPort
@@ -61,7 +61,7 @@ impl MemPort {
     /// Counts a call, and says whether it is to fail.
     fn call_fails(&mut self, is_read: bool) -> bool
         ensures fails { result ≡ fails self.old.calls self.old.made is_read }
-        ensures after { self.new ≡ called self.old self.old.counts }
+        ensures after { self.new ≡ after_call self.old self.old.counts }
     {
         let fails = self.calls.fails(self.made, is_read);
         self.made = self.made.saturating_add(1);
@@ -84,7 +84,7 @@ impl MemPort {
 }
 
 impl Port for MemPort {
-    ghost use Rattle.spl_port.specs.MemPort.{Refuses, called};
+    ghost use Rattle.spl_port.specs.MemPort.{Refuses, after_call};
 
     type Draft = MemDraft;
 
@@ -97,7 +97,7 @@ impl Port for MemPort {
     fn begin(&mut self, extent: u32, branch: u64, first: u32) -> MemDraft
         requires { first < 2 ^ 31 }
         ensures same { self.new ≡ self.old }
-        ensures begun { meaning true result ≡ begun true extent branch first }
+        ensures begun { meaning true result ≡ empty_draft true extent branch first }
         ensures counts { self.new.counts ≡ self.old.counts }
     {
         MemDraft::new(self.alloc, extent, branch, first)
@@ -107,10 +107,10 @@ impl Port for MemPort {
         requires { page_count (meaning true draft.old) < 32 }
         ensures refused { Refuses self.old self.new false result }
         ensures done { OnOk result (self.new
-            ≡ called self.old (record self.old.counts { writes = self.old.counts.writes + 1 })) }
+            ≡ after_call self.old (record self.old.counts { writes = self.old.counts.writes + 1 })) }
 
         // What each port keeps.
-        ensures ok { OnOk result (meaning true draft.new ≡ appended (meaning true draft.old) bytes.now) }
+        ensures ok { OnOk result (meaning true draft.new ≡ with_page (meaning true draft.old) bytes.now) }
         ensures err { OnErr result (meaning true draft.new ≡ meaning true draft.old) }
         ensures counts { WritesOne self.old.counts self.new.counts }
         ensures ok_count { OnOk result (self.new.counts.writes ≡ self.old.counts.writes + 1) }
@@ -132,7 +132,7 @@ impl Port for MemPort {
 
     fn seal(&mut self, draft: MemDraft) -> Result<MemSeal, PortFault>
         ensures refused { Refuses self.old self.new false result }
-        ensures done { OnOk result (self.new ≡ called self.old self.old.counts) }
+        ensures done { OnOk result (self.new ≡ after_call self.old self.old.counts) }
 
         // What each port keeps.
         ensures ok { IfOk result (λ seal. meaning true seal ≡ meaning true draft) }
@@ -149,7 +149,7 @@ impl Port for MemPort {
     fn read(&mut self, seal: &MemSeal, page: u32) -> Result<PageBytes, PortFault>
         requires { page < page_count (meaning true seal.now) }
         ensures refused { Refuses self.old self.new true result }
-        ensures done { IfOk result (λ bytes. self.new ≡ called self.old (record self.old.counts {
+        ensures done { IfOk result (λ bytes. self.new ≡ after_call self.old (record self.old.counts {
           reads = self.old.counts.reads + 1;
           last = Some (record { at = place (meaning true seal.now) page; bytes = bytes });
         })) }

@@ -12,9 +12,9 @@ pub struct MemSeal {
 }
 
 impl Model for MemSeal {
-    ghost use Rattle.spl_port.specs.MemDraft.{Stack};
+    ghost use Rattle.spl_port.specs.MemDraft.{PageStack};
 
-    ghost Value = { Stack };
+    ghost Value = { PageStack };
 
     ghost view = { λ s. s.stack };
 }

@@ -1,7 +1,7 @@
 ghost use Rattle.std.specs.Prelude.{◌≡◌, ◌+◌, ◌<◌, ◌^◌, Some, IfOk, OnOk, OnErr, length};
 ghost use Rattle.spl_port.specs.Counts.{Counts, IsSpent};
 ghost use Rattle.spl_port.specs.Port.{HasCause, MovesNone, ReadsOne, WritesOne};
-ghost use Rattle.spl_port.specs.Seal.{Sealed, Allows, appended, begun, page_count, place};
+ghost use Rattle.spl_port.specs.Seal.{Sealed, Allows, with_page, empty_draft, page_count, place};
 ghost use Rattle.spl_port.specs.declared.port.PortFault.TheVariants.{NoMemory as out_of_memory};
 
 use crate::{PAGE_BYTES, PageBytes, Seal};
@@ -72,13 +72,13 @@ pub trait Port: Drop {
     /// Begins to write the pages of an extent, which stand in the branch from page `first` on.
     fn begin(&mut self, extent: u32, branch: u64, first: u32) -> Self::Draft
         requires { first < 2 ^ 31 }
-        ensures begun { drafts result ≡ begun Self.Seal.TELLS extent branch first }
+        ensures begun { drafts result ≡ empty_draft Self.Seal.TELLS extent branch first }
         ensures counts { counts self.new ≡ counts self.old };
 
     /// Writes one more page.
     fn append(&mut self, draft: &mut Self::Draft, bytes: &[u8; PAGE_BYTES]) -> Result<(), PortFault>
         requires { page_count (drafts draft.old) < 32 }
-        ensures ok { OnOk result (drafts draft.new ≡ appended (drafts draft.old) bytes.now) }
+        ensures ok { OnOk result (drafts draft.new ≡ with_page (drafts draft.old) bytes.now) }
         ensures err { OnErr result (drafts draft.new ≡ drafts draft.old) }
         ensures counts { WritesOne (counts self.old) (counts self.new) }
         ensures ok_count { OnOk result ((counts self.new).writes ≡ (counts self.old).writes + 1) }

@@ -1,5 +1,5 @@
 ghost use Rattle.std.specs.Prelude.{◌≡◌, ◌+◌, ◌-◌, ◌^◌, ◌<◌, ◌≤◌, ◌↔◌, Some, IsTrue};
-ghost use Rattle.spl_port.specs.Counts.{raised, no_counts};
+ghost use Rattle.spl_port.specs.Counts.{raised_count, no_counts};
 
 use crate::{At, PAGE_BYTES};
 use std::marker::Model;
@@ -76,7 +76,7 @@ impl Tally {
 
     /// Counts a fault.
     pub fn fault(&mut self)
-        ensures after { self.new ≡ record self.old { faults = raised self.old.faults } }
+        ensures after { self.new ≡ record self.old { faults = raised_count self.old.faults } }
         ensures never_falls { self.old.faults ≤ self.new.faults }
     {
         self.faults = self.faults.saturating_add(1);

@@ -1,8 +1,9 @@
-ghost use Rattle.std.specs.Prelude.{◌≡◌, IsTrue, IfOk};
+ghost use Rattle.std.specs.Prelude.{◌≡◌, ◌<◌, ◌%◌, IsTrue, IfOk};
+ghost use Rattle.spl_port.specs.Seal.{Allows, page_count};
 
 use crate::{
-    At, Blur, BlurPort, Calls, Direct, MemPort, PAGE_BYTES, PageBytes, Pager, Patches, Port,
-    PortFault, Seal,
+    At, Blur, BlurPort, CallNumbers, Calls, Direct, MemPort, PAGE_BYTES, PageBytes, Pager, Patches,
+    Port, PortFault, Seal,
 };
 use std::test::Fail;
 
@@ -21,6 +22,23 @@ fn there_and_back<P: Port, G: Pager>(
     let at = seal.at(0);
     pager.fetch(port, &seal, at)
 }
+
+/// The first page of a seal, as a branch fetches it: the seal's type is the caller's.
+fn first_page<S: Seal, P: Port<Seal = S>, G: Pager>(
+    port: &mut P,
+    pager: &G,
+    seal: &S,
+) -> Result<PageBytes, PortFault>
+    requires pages { 0 < page_count (S.means seal.now) }
+    requires first { (S.means seal.now).first % 32 ≡ 0 }
+    ensures { IfOk result (λ page. Allows (S.means seal.now) 0 page) }
+{
+    let at = seal.at(0);
+    pager.fetch(port, seal, at)
+}
+
+/// Says that a value may cross threads.
+fn crosses<T: Send>(_value: &T) {}
 
 /// A page whose bytes are all the same.
 fn page_of(byte: u8) -> [u8; PAGE_BYTES] {
@@ -62,6 +80,8 @@ fn a_seal_has_the_places_of_its_pages(rt: HostRuntime) -> Result<(), Fail> {
             leaf: false
         }
     );
+    assert!(rt; *first_page(&mut port, &Direct, &seal)?.bytes() == page_of(b'L'));
+    crosses(&port);
     assert!(rt; seal.vouches(1, &page_of(b'I')));
     assert!(rt; !seal.vouches(1, &page_of(b'L')));
     assert!(rt; !seal.vouches(2, &page_of(b'I')));
@@ -139,5 +159,17 @@ fn a_blurred_seal_tells_its_places_alone(rt: HostRuntime) -> Result<(), Fail> {
         }
     );
     assert!(rt; seal.vouches(0, &page_of(1)));
+    Ok(())
+}
+
+#[test]
+fn what_is_made_of_a_vec_gives_it_back(rt: HostRuntime) -> Result<(), Fail> {
+    let alloc = rt.alloc();
+    let numbers = CallNumbers::from(vec![in alloc; 4, 2]?);
+    assert_eq!(rt; numbers.into_vec().as_slice(), [4, 2].as_slice());
+    let patches = Patches::from(vec![in alloc; (4095, 1)]?);
+    assert_eq!(rt; patches.into_vec().as_slice(), [(4095, 1)].as_slice());
+    let page = PageBytes::zeros(alloc)?;
+    assert_eq!(rt; page.into_vec().as_slice(), [0; PAGE_BYTES].as_slice());
     Ok(())
 }
