@@ -153,5 +153,4 @@ pub fn write_report(alloc: Global, rows: &[Row]) -> Result<Vec<u8>, NoMemory>
 /// No two reports of rows have the same text: the law of the definition of report text.
 pub fn one_report()
     ensures { (rows others : List Row) → AllByRecursion IsInRange rows → AllByRecursion IsInRange others → report_text rows ≡ report_text others → rows ≡ others }
-{
-}
+{}
