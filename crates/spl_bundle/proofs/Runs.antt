@@ -1,9 +1,9 @@
 -- Lemmas on a run of lists that is emptied one by one.
-use Rattle.std.proofs.Common.{◌≡◌, ℕ, ◌+◌, ◌-◌, ◌%◌, ◌<◌, ◌≤◌, List, [], ◌∷◌, ◌++◌, length, get_or, set, take, drop, replicate, sym, ap, ap₂, ◌∙◌, arith, add-zero, append_assoc, length-append, length-set, length-take-le, take-append-drop}
+use Rattle.std.proofs.Common.{◌≡◌, ℕ, ◌+◌, ◌-◌, ◌%◌, ◌<◌, ◌≤◌, List, [], ◌∷◌, ◌++◌, length, get_or, set, take, drop, replicate, sym, ap, ap₂, ◌∙◌, arith, append_assoc, length-append, length-set, length-take-le, take-append-drop}
 use Rattle.std.proofs.lemmas.List.{drop_more, set_at, replicate_more, length-replicate}
 use Rattle.spl_bundle.specs.declared.bundles.TheConstants.{MAX_LISTS}
 use Rattle.spl_bundle.specs.Slots.{window}
-use Rattle.spl_bundle.proofs.Windows.{length-window, window-set}
+use Rattle.spl_bundle.proofs.Windows.{window-set}
 
 -- the lists with so many of them emptied, from a place on
 abbrev pub emptied : List (List ℕ) → ℕ → ℕ → List (List ℕ)
@@ -19,9 +19,9 @@ module _ (lists : List (List ℕ)) (at : ℕ) where
   pub emptied_none : lists ≡ emptied lists at 0
   emptied_none =
       sym (
-        append_assoc (take at lists) [] (drop (at + 0) lists)
-        ∙ ap (λ (n : ℕ). take at lists ++ drop n lists) (omega arith)
-        ∙ take-append-drop at lists
+      append_assoc (take at lists) [] (drop (at + 0) lists)
+      ∙ ap (λ (n : ℕ). take at lists ++ drop n lists) (omega arith)
+      ∙ take-append-drop at lists
       )
 
   set-emptied : (count : ℕ) (list : List ℕ) → at + count < length lists → set (emptied lists at count) (at + count) list ≡ take at lists ++ replicate count [] ++ list ∷ drop (at + count + 1) lists

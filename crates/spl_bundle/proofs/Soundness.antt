@@ -1,14 +1,14 @@
 -- What sound fields say of the queue that they hold, and the queue after a step on the fields.
-use Rattle.std.proofs.Common.{◌≡◌, ℕ, ◌+◌, ◌-◌, ◌%◌, ◌<◌, ◌≤◌, max, List, [], ◌∷◌, ◌++◌, Option, None, Some, MatchOption, length, get_or, set, take, drop, replicate, refl, sym, ap, ap₂, ◌∙◌, arith, append_assoc, length-append, length-set, length-take-le, take-append-drop}
+use Rattle.std.proofs.Common.{◌≡◌, ℕ, ◌+◌, ◌-◌, ◌%◌, ◌<◌, ◌≤◌, max, List, [], ◌∷◌, ◌++◌, Option, None, Some, MatchOption, length, get_or, set, take, drop, replicate, refl, sym, ap, ap₂, ◌∙◌, arith, length-set}
 use Rattle.std.specs.Option.{option_to_list}
-use Rattle.std.proofs.lemmas.List.{drop_more, set_at, get_or-map, map-set, nil_from_length, replicate_more, length-map, length-replicate}
+use Rattle.std.proofs.lemmas.List.{get_or-map, nil_from_length}
 use Rattle.std.proofs.lemmas.List.Elements.{All-map}
 use Rattle.smallvec.specs.SmallVec.{SmallVec}
 use Rattle.spl_bundle.specs.declared.bundles.TheConstants.{MAX_LISTS, MAX_BRANCHES}
 use Rattle.spl_bundle.specs.declared.bundles.Bundles.TheInside.{Inside}
 use Rattle.spl_bundle.specs.Numbered.{Numbered, next_of, list_of, pushed, dropped_below, merged, IsWithinLimits}
-use Rattle.spl_bundle.specs.Slots.{window, contents, numbered, IsSlot, IsSound}
-use Rattle.spl_bundle.proofs.Windows.{length-window, get_or-window, drop-window, All-window, window-set, window-push}
+use Rattle.spl_bundle.specs.Slots.{window, contents, numbered, IsSound}
+use Rattle.spl_bundle.proofs.Windows.{length-window, get_or-window, drop-window, All-window, window-push}
 
 -- equal parts make equal queues
 same_queue : (a b : ℕ) (xs ys : List (List ℕ)) → a ≡ b → xs ≡ ys → let q : Numbered = record { first = a; lists = xs } in let r : Numbered = record { first = b; lists = ys } in q ≡ r
@@ -29,8 +29,8 @@ module _ (inside : Inside) where
   within_limits sound = record {
     lists = rw length-lists sound.lists;
     branches =
-      let fits : List ℕ → Type 0 = λ list. length list ≤ MAX_BRANCHES in
-      All-window (contents inside.slots) fits inside.first (inside.next - inside.first) (omega arith) (All-map fits (λ slot. slot.items) inside.slots (λ k d within. (sound.slots k d within).branches));
+        let fits : List ℕ → Type 0 = λ list. length list ≤ MAX_BRANCHES in
+        All-window (contents inside.slots) fits inside.first (inside.next - inside.first) (omega arith) (All-map fits (λ slot. slot.items) inside.slots (λ k d within. (sound.slots k d within).branches));
     numbers = let next = next_is sound in omega (arith, sound.numbers);
   }
 
@@ -51,9 +51,9 @@ module _ (inside : Inside) where
       let ordered = sound.in_order in
       let end : inside.first + count ≡ inside.next = omega arith in
       same_queue _ _ _ _ refl (
-        ap₂ (λ xs n. window xs inside.first n) filled (omega arith)
-        ∙ ap (λ (n : ℕ). window (set (contents inside.slots) (n % MAX_LISTS) list) inside.first (count + 1)) (sym end)
-        ∙ window-push (contents inside.slots) inside.first count list (sym (ap length filled ∙ length-set _ _ _) ∙ full) room
+      ap₂ (λ xs n. window xs inside.first n) filled (omega arith)
+      ∙ ap (λ (n : ℕ). window (set (contents inside.slots) (n % MAX_LISTS) list) inside.first (count + 1)) (sym end)
+      ∙ window-push (contents inside.slots) inside.first count list (sym (ap length filled ∙ length-set _ _ _) ∙ full) room
       )
 
   pub numbered-merge : (after : Inside) (first last from : ℕ) (output : Option ℕ) (list : List ℕ) → after.first ≡ inside.first → after.next ≡ inside.next → from ≡ max inside.first first → list ≡ option_to_list output → window (contents after.slots) inside.first (inside.next - inside.first) ≡ take (from - inside.first) (numbered inside).lists ++ replicate (last - from) [] ++ list ∷ drop (last + 1 - inside.first) (numbered inside).lists → numbered after ≡ merged (numbered inside) first last output
@@ -62,10 +62,10 @@ module _ (inside : Inside) where
       let before : from - inside.first ≡ first - inside.first = omega arith in
       let run : last - from ≡ last - max first inside.first = omega arith in
       same_queue _ _ _ _ same_first (
-        ap₂ (window (contents after.slots)) same_first (omega arith)
-        ∙ lists
-        ∙ ap₂ (λ (m n : ℕ). take m old ++ replicate n [] ++ list ∷ drop (last + 1 - inside.first) old) before run
-        ∙ ap (λ held. take (first - inside.first) old ++ replicate (last - max first inside.first) [] ++ held ∷ drop (last + 1 - inside.first) old) held
+      ap₂ (window (contents after.slots)) same_first (omega arith)
+      ∙ lists
+      ∙ ap₂ (λ (m n : ℕ). take m old ++ replicate n [] ++ list ∷ drop (last + 1 - inside.first) old) before run
+      ∙ ap (λ held. take (first - inside.first) old ++ replicate (last - max first inside.first) [] ++ held ∷ drop (last + 1 - inside.first) old) held
       )
 
 -- an option as a slice

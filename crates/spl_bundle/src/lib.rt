@@ -7,6 +7,8 @@
 mod bundles;
 mod limit;
 mod slots;
+#[cfg(test)]
+mod tests;
 
 pub use bundles::{Bundles, MAX_BRANCHES, MAX_LISTS};
 pub use limit::Limit;

@@ -1,4 +1,4 @@
-use Rattle.std.proofs.Common.{◌<◌, length, ◌∙◌, arith, rules}
+use Rattle.std.proofs.Common.{◌∙◌, arith}
 use Rattle.std.proofs.lemmas.Grind.{elements}
 use Rattle.spl_bundle.proofs.Copies.{copied_more, copied_all}
 use Rattle.spl_bundle.proofs.slots.copy_slots.Goals as goal

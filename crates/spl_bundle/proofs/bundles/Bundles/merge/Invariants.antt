@@ -13,6 +13,6 @@ invariant-loop-number l =
       same_first : l.self-inside.first ≡ first;
       same_next : l.self-inside.next ≡ l.initial.self-inside.next;
       lists : window (contents l.self-inside.slots) first count
-        ≡ emptied (window (contents l.initial.self-inside.slots) first count) (l.from - first) (l.number - l.from);
+          ≡ emptied (window (contents l.initial.self-inside.slots) first count) (l.from - first) (l.number - l.from);
       slots : All IsSlot l.self-inside.slots;
     }

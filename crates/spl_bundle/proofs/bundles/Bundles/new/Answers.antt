@@ -1,4 +1,3 @@
-use Rattle.std.proofs.Common.{rules}
 use Rattle.spl_bundle.proofs.Soundness.{numbered-none}
 use Rattle.spl_bundle.proofs.bundles.Bundles.new.Goals as goal
 
