@@ -1,0 +1,4 @@
+pub mod Windows
+pub mod Soundness
+pub mod Runs
+pub mod Copies

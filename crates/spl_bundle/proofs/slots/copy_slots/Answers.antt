@@ -1,0 +1,18 @@
+use Rattle.std.proofs.Common.{◌∙◌, arith}
+use Rattle.std.proofs.lemmas.Grind.{elements}
+use Rattle.spl_bundle.proofs.Copies.{copied_more, copied_all}
+use Rattle.spl_bundle.proofs.slots.copy_slots.Goals as goal
+
+pub loop-i-preserved : goal.loop-i-preserved
+loop-i-preserved c =
+    let i = c.loop-i.i in
+    let count = c.loop-i.invariant.count in
+    record {
+      count = grind (arith, elements);
+      same = copied_more c.args.slots.now c.loop-i.copy i _ c.index-slots-i.result (omega arith) (omega arith) (c.overwrite.ensures.items ∙ c.as_slice.ensures) c.loop-i.invariant.same;
+      slots = grind (arith, elements);
+    }
+
+pub returns-clause-contents : goal.returns-clause-contents
+returns-clause-contents c =
+    copied_all c.args.slots.now c.loop-i.copy c.loop-i.i (omega arith) (omega (arith, c.loop-i.invariant.count)) c.loop-i.invariant.same

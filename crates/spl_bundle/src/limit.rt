@@ -1,0 +1,22 @@
+use std::error::Error;
+use std::fmt;
+
+/// Why a list is not taken.
+#[derive(Clone, Copy, Debug, PartialEq, Eq, Hash)]
+pub enum Limit {
+    /// As many lists stand as there is room for.
+    Lists { lists: u32 },
+    /// The list has more branches than one list may have. The count stops at the type's end.
+    Branches { branches: u32 },
+}
+
+impl fmt::Display for Limit {
+    fn fmt<W: fmt::Write>(&self, f: &mut fmt::Formatter<W>) -> fmt::Result {
+        match self {
+            Limit::Lists { lists } => write!(f, "there are {lists} lists already"),
+            Limit::Branches { branches } => write!(f, "a list of {branches} branches is too long"),
+        }
+    }
+}
+
+impl Error for Limit {}
