@@ -1,4 +1,4 @@
-ghost use Rattle.std.specs.Prelude.{◌≡◌, ◌≢◌, ◌<◌, ◌≤◌, ◌↔◌, List, length, slice_get, slice_set, replicate, Some, IsSomeAnd, IsNone, IfSome, IfNone, IfOk};
+ghost use Rattle.std.specs.Prelude.{◌≡◌, ◌≢◌, ◌<◌, ◌≤◌, ◌↔◌, length, slice_get, slice_set, replicate, Some, IsSomeAnd, IsNone, IfSome, IfNone, IfOk};
 ghost use Rattle.spl_extent.specs.Pool.{free_count};
 
 use crate::owner::Owner;
@@ -15,8 +15,8 @@ pub const EXTENTS: u32 = 65_536;
 /// Whose each extent of a store is. In a clause it is the list of the owners, by the extents'
 /// numbers, so each extent is exactly one of free, granted to one actor, or held by one branch.
 ///
-/// Only `new` takes memory, about 20 bytes an extent. Each other call takes the same few steps however
-/// many extents there are.
+/// Only `new` takes memory, about 20 bytes an extent. Each other call takes the same few steps
+/// however many extents there are.
 #[derive(Debug, Drop)]
 pub struct Pool {
     owners: Vec<Owner>,
