@@ -17,7 +17,8 @@ is_free-taken Free taken = absurd (taken refl)
 is_free-taken (Granted actor) taken = refl
 is_free-taken (Held branch) taken = refl
 
-slice_get-set_other : (owners : List Owner) (extent other : ℕ) (owner : Owner) → other ≢ extent → slice_get (set owners extent owner) other ≡ slice_get owners other
+-- what a change of one extent's owner leaves, there and elsewhere
+pub slice_get-set_other : (owners : List Owner) (extent other : ℕ) (owner : Owner) → other ≢ extent → slice_get (set owners extent owner) other ≡ slice_get owners other
 slice_get-set_other [] extent other owner apart = refl
 slice_get-set_other (x ∷ owners) zero zero owner apart = absurd (apart refl)
 slice_get-set_other (x ∷ owners) zero (suc other) owner apart = refl
@@ -25,13 +26,13 @@ slice_get-set_other (x ∷ owners) (suc extent) zero owner apart = refl
 slice_get-set_other (x ∷ owners) (suc extent) (suc other) owner apart =
     slice_get-set_other owners extent other owner (λ same. apart cc)
 
-slice_get-set_same : (owners : List Owner) (extent : ℕ) (was owner : Owner) → slice_get owners extent ≡ Some was → slice_get (set owners extent owner) extent ≡ Some owner
+pub slice_get-set_same : (owners : List Owner) (extent : ℕ) (was owner : Owner) → slice_get owners extent ≡ Some was → slice_get (set owners extent owner) extent ≡ Some owner
 slice_get-set_same [] extent was owner had = cc
 slice_get-set_same (x ∷ owners) zero was owner had = refl
 slice_get-set_same (x ∷ owners) (suc extent) was owner had = slice_get-set_same owners extent was owner had
 
 -- how the count of the free extents changes with the owner of one
-free_count-set : (owners : List Owner) (extent : ℕ) (was owner : Owner) → slice_get owners extent ≡ Some was → free_count (set owners extent owner) + cond (is_free was) 1 0 ≡ free_count owners + cond (is_free owner) 1 0
+pub free_count-set : (owners : List Owner) (extent : ℕ) (was owner : Owner) → slice_get owners extent ≡ Some was → free_count (set owners extent owner) + cond (is_free was) 1 0 ≡ free_count owners + cond (is_free owner) 1 0
 free_count-set owners extent was owner had =
     rw (get_or_from_slice_get owners extent was was had) at (sum_by-set (λ other. cond (is_free other) 1 0) owners extent owner was (slice_get_within owners extent was had))
 

@@ -12,10 +12,10 @@ grips_at holds node = slice_index_or holds node []
 abbrev pub grip_of : List (List Grip) → ℕ → ℕ → Grip
 grip_of holds actor node = grip_in (grips_at holds node) actor
 
--- the same, but for this actor's grip on this node
+-- the grips where this actor's on this node is this one, and every other as before
 abbrev pub with_grip : List (List Grip) → ℕ → ℕ → Grip → List (List Grip)
 with_grip holds actor node grip = slice_set holds node (slice_set (grips_at holds node) actor grip)
 
--- the same, but that this actor has nothing of any node
+-- the grips where this actor has nothing of any node, and every other actor what it had
 abbrev pub without_actor : List (List Grip) → ℕ → List (List Grip)
 without_actor holds actor = map (λ grips. slice_set grips actor Free) holds

@@ -10,7 +10,8 @@ use Rattle.spl_holds.specs.Grip.{is_read, is_write, may_write}
 abbrev pub grip_in : List Grip → ℕ → Grip
 grip_in grips actor = slice_index_or grips actor Free
 
--- the rules of a latch: at most one actor has a claim or a write, and a write excludes every other grip
+-- the rules of a latch: any number of actors may read, at most one has a claim or a write, and a write
+-- excludes every other grip
 pub record IsLatched (grips : List Grip) : Type 0 where
   pub actors : length grips ≡ ACTORS
   pub one_claim : (actor other : ℕ) → may_write (grip_in grips actor) ≡ true → may_write (grip_in grips other) ≡ true → actor ≡ other

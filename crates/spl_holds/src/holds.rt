@@ -40,7 +40,8 @@ impl Model for Holds {
 impl Holds {
     /// Node 0, which nobody holds.
     pub fn new(alloc: Global) -> Result<Holds, NoMemory>
-        ensures { IfOk result (λ holds. holds ≡ nobody ∷ []) }
+        ensures root { IfOk result (λ holds. holds ≡ nobody ∷ []) }
+        ensures latched { IfOk result (λ holds. All IsLatched holds) }
     {
         let mut latches = Vec::with_capacity(alloc, NODES as usize)?;
         latches.push(Latch::new())?;

@@ -40,7 +40,7 @@ fn answer(
 }
 
 #[test]
-fn a_lock_waits_for_a_reader_and_a_claim_for_a_claim(rt: HostRuntime) -> Result<(), Fail> {
+fn a_reader_forbids_a_lock_and_a_claimant_a_claim(rt: HostRuntime) -> Result<(), Fail> {
     let mut holds = Holds::new(rt.alloc())?;
     for (actor, call, want) in [
         (1, Call::Read, Ok(())),
