@@ -9,7 +9,7 @@ use Rattle.spl_port.specs.Counts.{Rose}
 use Rattle.spl_script.specs.declared.script.ScriptLine.{ScriptLine}
 use Rattle.spl_script.specs.Script.{Faulty, script_text, lines_from}
 use Rattle.spl_top.specs.declared.report.Row.{Row}
-use Rattle.spl_top.specs.Outcome.{IsRun, Outcome, bad_words, bad_source, bad_line, rows_of_run, EndsByInput, EndsBy, EndsWithInput, Ends, status_of, text_of, fault_text}
+use Rattle.spl_top.specs.Outcome.{IsRun, Outcome, bad_words, bad_source, bad_line, rows_of_run, EndsByInput, EndsBy, EndsWithInput, IsRead, Ends, status_of, text_of, fault_text}
 use Rattle.spl_top.specs.Legal.{IsLegal, IsComplete}
 use Rattle.spl_top.specs.Top.{Says, Tells, Reports, Refuses}
 
@@ -30,6 +30,17 @@ module _ {A : Type 0} (words : List (String A)) (left rest : Option (List ℕ)) 
       by None n = tt
       by (Some r) n = script_told read r bound n ∙ is
 
+  all_read : Gives left rest read → length read ≤ 16777217 → (length read < 16777217 → IfSome rest (λ r. r ≡ [])) → IsRead left rest
+  all_read gives bound none = subst (λ l. IsRead l rest) (sym gives) (by rest none)
+    where
+      by : (o : Option (List ℕ)) → (length read < 16777217 → IfSome o (λ r. r ≡ [])) → IsRead (option_map (λ r. read ++ r) o) o
+      by None n = tt
+      by (Some r) n = at (cases_lt (length read) 16777217)
+        where
+          at : (length read < 16777217) ⊎ (16777217 ≤ length read) → (r ≡ []) ⊎ (length (read ++ r) ≡ 16777217 + length r)
+          at (inl few) = inl (n few)
+          at (inr all) = inr (omega (arith, length-append read r))
+
   rows_told : (rows : List Row) (early : Bool) → Gives left rest read → IfSome rest (λ r. r ≡ []) → EndsByInput read (rows_of_run rows early) → IfSome left (λ input. EndsByInput input (rows_of_run rows early))
   rows_told rows early gives none is = subst (λ l. IfSome l (λ input. EndsByInput input (rows_of_run rows early))) (sym gives) (by rest none)
     where
@@ -44,7 +55,7 @@ module _ {A : Type 0} (words : List (String A)) (left rest : Option (List ℕ)) 
       by : (outcome : Outcome) → EndsByInput read outcome → EndsBy words left rest before now outcome
       by bad_words h = absurd h
       by bad_source h = absurd h
-      by (bad_line faulty) h = (run, line_told faulty gives bound none h)
+      by (bad_line faulty) h = (run, line_told faulty gives bound none h, all_read gives bound none)
       by (rows_of_run rows early) h = let end : IfSome rest (λ r. r ≡ []) = none (omega arith) in (run, rows_told rows early gives end h, end)
 
 module _ {A : Type 0} (words : List (String A)) (left rest held held' : Option (List ℕ)) (before now outs outs' result : ℕ) where

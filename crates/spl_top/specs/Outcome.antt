@@ -1,5 +1,5 @@
 -- How a run of the program ends: with which status and which text, and why.
-use Rattle.std.specs.Prelude.{◌≡◌, ℕ, ◌≤◌, length, Bool, true, false, List, [], ◌∷◌, ◌++◌, map, codes, decimal, Option, Ok, Err, IfSome, String, string_bytes}
+use Rattle.std.specs.Prelude.{◌≡◌, ℕ, ◌+◌, ◌≤◌, ◌⊎◌, length, Bool, true, false, List, [], ◌∷◌, ◌++◌, map, codes, decimal, Option, Ok, Err, IfSome, String, string_bytes}
 use Rattle.spl_port.specs.Counts.{Rose}
 use Rattle.spl_script.specs.declared.fault.LineWhy.{LineWhy}
 use Rattle.spl_script.specs.declared.fault.LineWhy.TheVariants.{Size, Fields, Caller, Verb, Value, Text, Key, Later}
@@ -55,12 +55,17 @@ EndsByInput input (bad_line faulty) = script_text 1 input ≡ Err faulty
 EndsByInput input (rows_of_run rows early) =
     (length input ≤ 16777216) × (script : List ScriptLine) × (script_text 1 input ≡ Ok script) × IsLegal rows script × (early ≡ false → IsComplete rows script)
 
+-- the source was read to its end, or 16,777,217 bytes of it were read
+abbrev pub IsRead : Option (List ℕ) → Option (List ℕ) → Type 0
+IsRead left rest = IfSome left (λ input. IfSome rest (λ more. (more ≡ []) ⊎ (length input ≡ 16777217 + length more)))
+
 -- why a run ends so: by its words, by the bytes that the source tells before and after, and by the source's count of faults;
 -- where rows are shown, the source was read to its end
 abbrev pub EndsBy : {A : Type 0} → List (String A) → Option (List ℕ) → Option (List ℕ) → ℕ → ℕ → Outcome → Type 0
 EndsBy words left rest before now bad_words = ¬ (IsRun words)
 EndsBy words left rest before now bad_source = IsRun words × Rose before now
-EndsBy words left rest before now (bad_line faulty) = IsRun words × IfSome left (λ input. EndsByInput input (bad_line faulty))
+EndsBy words left rest before now (bad_line faulty) =
+    IsRun words × IfSome left (λ input. EndsByInput input (bad_line faulty)) × IsRead left rest
 EndsBy words left rest before now (rows_of_run rows early) =
     IsRun words × IfSome left (λ input. EndsByInput input (rows_of_run rows early)) × IfSome rest (λ bytes. bytes ≡ [])
 

@@ -1,5 +1,6 @@
 //! How a run of the program ends: with which status and which text.
 ghost use Rattle.std.specs.Prelude.{◌≡◌, ◌↔◌, IfOk, IsTrue};
+ghost use Rattle.spl_port.specs.Bytes.{Loses};
 ghost use Rattle.spl_top.specs.Outcome.{IsRun, Ends, EndsWithInput, why_text, fault_text};
 
 use crate::report::{push_number, write_report};
@@ -89,7 +90,8 @@ pub fn ending_of<I: Source>(
     words: &[String],
     input: &mut I,
 ) -> Result<Ending, NoMemory>
-    ensures { IfOk result (λ ending. Ends words.now (I.left input.old) (I.left input.new) (I.faults input.old) (I.faults input.new) ending.status ending.text.items) }
+    ensures ending { IfOk result (λ ending. Ends words.now (I.left input.old) (I.left input.new) (I.faults input.old) (I.faults input.new) ending.status ending.text.items) }
+    ensures reading_ends { Loses (I.left input.old) (I.left input.new) 16777217 }
 {
     if !are_run(words) {
         return Ending::fixed(alloc, 1, b"words\n");

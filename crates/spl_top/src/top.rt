@@ -1,10 +1,10 @@
 //! The top call.
 ghost use Rattle.std.specs.Prelude.{◌≡◌, ◌≢◌, ◌≤◌, ◌⊎◌, ℕ, List, [], IfSome, Ok, Err, codes};
-ghost use Rattle.spl_port.specs.Bytes.{Takes, TakesPart};
+ghost use Rattle.spl_port.specs.Bytes.{Loses, Takes, TakesPart};
 ghost use Rattle.spl_port.specs.Counts.{Rose};
 ghost use Rattle.spl_script.specs.declared.script.ScriptLine.{ScriptLine};
 ghost use Rattle.spl_script.specs.Script.{Faulty, script_text};
-ghost use Rattle.spl_top.specs.Outcome.{IsRun, fault_text};
+ghost use Rattle.spl_top.specs.Outcome.{IsRead, IsRun, fault_text};
 ghost use Rattle.spl_top.specs.Top.{Tells, Says, Reports, Refuses, IsDone, IsStatus};
 
 use crate::ending::ending_of;
@@ -24,9 +24,10 @@ fn tell<O: Sink>(out: &mut O, text: &[u8], status: u8) -> u8
 
 /// Ends the program, and tells how.
 fn end<I: Source, O: Sink>(alloc: Global, words: &[String], input: &mut I, out: &mut O) -> u8
-    ensures { (status : ℕ) × (text : List ℕ)
+    ensures told { (status : ℕ) × (text : List ℕ)
         × Says words.now (I.left input.old) (I.left input.new) (I.faults input.old) (I.faults input.new) status text
         × Tells (O.held out.old) (O.held out.new) (O.faults out.old) (O.faults out.new) status text result }
+    ensures reading_ends { Loses (I.left input.old) (I.left input.new) 16777217 }
 {
     match ending_of(alloc, words, input) {
         Ok(ending) => tell(out, ending.text.as_slice(), ending.status),
@@ -58,11 +59,15 @@ pub fn splinter<I: Source, O: Sink>(
     ensures done { result ≡ 0 → IsRun words.now
         × IfSome (I.left input.old) (IsDone (O.held out.old) (O.held out.new)) × IfSome (I.left input.new) (λ bytes. bytes ≡ []) }
 
+    // No more of the input is read.
+    ensures reading_ends { Loses (I.left input.old) (I.left input.new) 16777217 }
+
     // Each refusal comes for its cause, and where that cause holds.
     ensures status { IsStatus result }
     ensures words_only { result ≡ 1 → ¬ (IsRun words.now) }
     ensures words { ¬ (IsRun words.now) → Refuses (O.held out.old) (O.held out.new) 1 (codes "words\n") result }
-    ensures script_only { result ≡ 2 → IsRun words.now × IfSome (I.left input.old) (λ bytes. (faulty : Faulty) × (script_text 1 bytes ≡ Err faulty)) }
+    ensures script_only { result ≡ 2 → IsRun words.now × IfSome (I.left input.old) (λ bytes. (faulty : Faulty) × (script_text 1 bytes ≡ Err faulty))
+        × IsRead (I.left input.old) (I.left input.new) }
     ensures script { IsRun words.now → IfSome (I.left input.old) (λ bytes. (faulty : Faulty) → script_text 1 bytes ≡ Err faulty
         → result ≢ 3 → Refuses (O.held out.old) (O.held out.new) 2 (fault_text faulty) result) }
     ensures source_only { result ≡ 3 → IsRun words.now × Rose (I.faults input.old) (I.faults input.new) × Takes (O.held out.old) (O.held out.new) (codes "source\n") }

@@ -5,8 +5,8 @@ use Rattle.spl_top.specs.Outcome.{Ends, EndsWithInput}
 use Rattle.spl_top.proofs.Tops.{ends_told}
 use Rattle.spl_top.proofs.ending.ending_of.Goals as goal
 
-pub returns-in-Ok : goal.returns-in-Ok
-returns-in-Ok g c =
+pub returns-in-Ok-clause-ending : goal.returns-in-Ok-clause-ending
+returns-in-Ok-clause-ending g c =
     let count : length c.in-Ok.bytes.items ≡ vec_len c.in-Ok.bytes = ap length (sym c.as_slice.ensures.value) ∙ c.as_slice.ensures.len in
     let bound : length c.in-Ok.bytes.items ≤ 16777217 = omega (arith, count, c.in-Ok.ensures.bound) in
     IfOk-weaker c.ending_of_input.result (λ (ending : Ending). EndsWithInput ending.status ending.text.items c.as_slice.result.now) _
