@@ -1,0 +1,4 @@
+pub mod Fnv
+pub mod Slot
+pub mod Counts
+pub mod Table

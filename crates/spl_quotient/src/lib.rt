@@ -1,0 +1,8 @@
+//! Quotient filters: which keys a branch may have, by the fingerprints of their hashes.
+#![tactic(auto)]
+
+mod hash;
+mod slot;
+mod table;
+
+pub use hash::{fingerprint, fnv};
