@@ -42,15 +42,15 @@ homes slots n = tally (occupied_at slots) n
 abbrev pub runs : List Slot → ℕ → ℕ
 runs slots n = tally (begins_at slots) n
 
--- the slot at the place has the remainder, and is in the run of the home: as many runs begin up to the place
--- as slots up to the home are occupied
+-- the slot at the place has the remainder, and is in the run with this number, counted from 1
 abbrev pub has_at : List Slot → ℕ → ℕ → ℕ → Bool
-has_at slots home remainder place =
-    used_at slots place && (runs slots (suc place) == homes slots (suc home)) && ((at slots place).remainder == remainder)
+has_at slots run remainder place =
+    used_at slots place && (runs slots (suc place) == run) && ((at slots place).remainder == remainder)
 
--- the home is occupied, and a slot of its run has the remainder
+-- the home is occupied, and its run has the remainder: the runs lie in the order of their homes
 abbrev pub has : List Slot → ℕ → ℕ → Bool
-has slots home remainder = occupied_at slots home && some_below (has_at slots home remainder) (length slots)
+has slots home remainder =
+    occupied_at slots home && some_below (has_at slots (homes slots (suc home)) remainder) (length slots)
 
 -- the fingerprints that lie in a table of 2 ^ q slots, in order
 unfoldable pub prints_in : ℕ → Table → List ℕ

@@ -1,6 +1,7 @@
 //! Quotient filters: which keys a branch may have, by the fingerprints of their hashes.
 #![tactic(auto)]
 
+mod find;
 mod hash;
 mod slot;
 mod table;

@@ -1,5 +1,5 @@
 //! The slots of a filter, by positions.
-ghost use Rattle.std.specs.Prelude.{◌≡◌, ◌<◌, length, replicate, slice_set, IfOk};
+ghost use Rattle.std.specs.Prelude.{◌≡◌, ◌^◌, ◌<◌, length, replicate, slice_set, IfOk};
 ghost use Rattle.spl_quotient.specs.Slot.{blank};
 ghost use Rattle.spl_quotient.specs.Table.{at, position_of, place_in_turn};
 
@@ -40,7 +40,8 @@ impl Table {
 
     /// How many slots there are.
     pub(crate) fn len(&self) -> usize
-        ensures { result ≡ length self.now.slots }
+        ensures value { result ≡ length self.now.slots }
+        ensures fits { length self.now.slots < 2 ^ 63 }
     {
         self.slots.len()
     }
@@ -61,7 +62,8 @@ impl Table {
     /// The slot at a position.
     pub(crate) fn slot_at(&self, position: usize) -> Slot
         requires { position < length self.now.slots }
-        ensures { result ≡ at self.now.slots position }
+        ensures value { result ≡ at self.now.slots position }
+        ensures fits { length self.now.slots < 2 ^ 63 }
     {
         self.slots[number_of(self.origin, position, self.slots.len())]
     }
