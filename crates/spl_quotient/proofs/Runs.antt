@@ -45,7 +45,7 @@ module _ (slots : List Slot) (laid : IsLaid slots) where
   balanced_all = balanced_before (length slots) (ap (λ (slot : Slot). slot.shifted) (get_or_past slots (length slots) blank (omega arith)))
 
 -- a continuation begins no run
-begins-continuation : (slot : Slot) → slot.continuation ≡ true → begins_run slot ≡ false
+pub begins-continuation : (slot : Slot) → slot.continuation ≡ true → begins_run slot ≡ false
 begins-continuation slot more = and_right (is_used slot) (not slot.continuation) (ap not more)
 
 -- what lies in a slot that begins no run continues one

@@ -3,6 +3,7 @@
 
 mod find;
 mod hash;
+mod lay;
 mod slot;
 mod table;
 
