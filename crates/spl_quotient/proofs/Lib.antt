@@ -2,3 +2,4 @@ pub mod Turns
 pub mod Tallies
 pub mod Runs
 pub mod Filled
+pub mod Laying

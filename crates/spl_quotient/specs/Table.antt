@@ -17,10 +17,9 @@ abbrev pub place_in_turn : ℕ → ℕ → ℕ → ℕ
 place_in_turn origin len position =
     if nat_lt position (len - origin) then origin + position else position - (len - origin)
 
--- the position of the slot with this number
-abbrev pub position_of : Table → ℕ → ℕ
-position_of table number =
-    if nat_lt number table.origin then number + length table.slots - table.origin else number - table.origin
+-- the position of the slot with this number, where so many are counted from the origin
+abbrev pub position_in : ℕ → ℕ → ℕ → ℕ
+position_in origin len number = if nat_lt number origin then number + len - origin else number - origin
 
 -- the slot at a position; behind the last one nothing lies
 abbrev pub at : List Slot → ℕ → Slot
@@ -52,10 +51,14 @@ abbrev pub has : List Slot → ℕ → ℕ → Bool
 has slots home remainder =
     occupied_at slots home && some_below (has_at slots (homes slots (suc home)) remainder) (length slots)
 
+-- the position of the slot of a fingerprint's quotient
+abbrev pub home_in : ℕ → ℕ → ℕ → ℕ
+home_in origin len print = position_in origin len (print / 2 ^ 12)
+
 -- the fingerprints that lie in a table of 2 ^ q slots, in order
 unfoldable pub prints_in : ℕ → Table → List ℕ
 prints_in q table =
-    passing (λ print. has table.slots (position_of table (print / 2 ^ 12)) (print % 2 ^ 12)) (2 ^ (q + 12))
+    passing (λ print. has table.slots (home_in table.origin (length table.slots) print) (print % 2 ^ 12)) (2 ^ (q + 12))
 
 -- how runs lie
 pub record IsLaid (slots : List Slot) : Type 0 where

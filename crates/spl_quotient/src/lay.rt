@@ -1,13 +1,38 @@
 //! How a table is filled: run behind run, in the order of their homes.
-ghost use Rattle.std.specs.Prelude.{◌≡◌, ◌≢◌, true, false, ◌^◌, ◌≤◌, ◌<◌, ◌+◌, max, length};
-ghost use Rattle.spl_quotient.specs.Filling.{IsFilled, Gains};
+ghost use Rattle.std.specs.Prelude.{◌≡◌, ◌≢◌, ℕ, true, false, ◌+◌, ◌/◌, ◌^◌, ◌≤◌, ◌<◌, ◌↔◌, max, length, All};
+ghost use Rattle.spl_quotient.specs.Filling.{IsFilled, IsInTurn, Gains, HasPrint};
+ghost use Rattle.spl_quotient.specs.Slot.{blank};
+ghost use Rattle.spl_quotient.specs.Table.{has, IsLaid};
 
 use crate::slot::Slot;
-use crate::table::Table;
+use crate::table::{Table, number_of};
+
+/// Lays the fingerprints into an empty table: first those from the place `first` on, and then those before it.
+pub(crate) fn lay(table: &mut Table, prints: &[u64], first: usize)
+    requires empty { All (λ slot. slot ≡ blank) table.old.slots }
+    requires numbers { All (λ print. print / 2 ^ 12 < length table.old.slots) prints.now }
+    requires count { length prints.now ≤ length table.old.slots }
+    requires first { 0 < length prints.now → first < length prints.now }
+    requires turn { IsInTurn prints.now first table.old.origin (length table.old.slots) }
+    ensures laid { IsLaid table.new.slots }
+    ensures has { (h r : ℕ) → (has table.new.slots h r ≡ true)
+        ↔ HasPrint prints.now first table.old.origin (length table.old.slots) (length prints.now) h r }
+    ensures origin { table.new.origin ≡ table.old.origin }
+    ensures len { length table.new.slots ≡ length table.old.slots }
+{
+    let mut next = 0;
+    let mut last = 0;
+    for i in 0..prints.len() {
+        let print = prints[number_of(first, i, prints.len())];
+        let home = table.position_of((print / 4096) as usize);
+        next = lay_one(table, next, last, home, (print % 4096) as u16);
+        last = home;
+    }
+}
 
 /// Lays a remainder behind all that is laid, or at its home where that lies further on, and gives the next position.
 /// `last` is the home of the run before.
-pub(crate) fn lay_one(
+fn lay_one(
     table: &mut Table,
     next: usize,
     last: usize,

@@ -1,7 +1,7 @@
 //! The slots of a filter, by positions.
 ghost use Rattle.std.specs.Prelude.{◌≡◌, ◌^◌, ◌<◌, length, replicate, slice_set, IfOk};
 ghost use Rattle.spl_quotient.specs.Slot.{blank};
-ghost use Rattle.spl_quotient.specs.Table.{at, position_of, place_in_turn};
+ghost use Rattle.spl_quotient.specs.Table.{at, position_in, place_in_turn};
 
 use crate::slot::Slot;
 use spl_message::NoMemory;
@@ -49,7 +49,7 @@ impl Table {
     /// The position of the slot with this number.
     pub(crate) fn position_of(&self, number: usize) -> usize
         requires { number < length self.now.slots }
-        ensures value { result ≡ position_of self.now number }
+        ensures value { result ≡ position_in self.now.origin (length self.now.slots) number }
         ensures within { result < length self.now.slots }
     {
         if number < self.origin {
