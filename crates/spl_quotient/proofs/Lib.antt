@@ -3,3 +3,4 @@ pub mod Tallies
 pub mod Runs
 pub mod Filled
 pub mod Laying
+pub mod Turning

@@ -6,10 +6,10 @@ use Rattle.std.proofs.lemmas.Grind.{common_steps}
 use Rattle.spl_quotient.specs.Slot.{Slot}
 use Rattle.spl_quotient.specs.Table.{Table, turned, place_in_turn}
 
-place_ahead : (origin len j : ℕ) → j < len - origin → place_in_turn origin len j ≡ origin + j
+pub place_ahead : (origin len j : ℕ) → j < len - origin → place_in_turn origin len j ≡ origin + j
 place_ahead origin len j near = rw (lt-ltb j (len - origin) near) refl
 
-place_round : (origin len j : ℕ) → len - origin ≤ j → place_in_turn origin len j ≡ j - (len - origin)
+pub place_round : (origin len j : ℕ) → len - origin ≤ j → place_in_turn origin len j ≡ j - (len - origin)
 place_round origin len j far = rw (le-ltb j (len - origin) far) refl
 
 -- different positions have places of their own

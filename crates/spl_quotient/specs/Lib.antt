@@ -3,3 +3,5 @@ pub mod Slot
 pub mod Counts
 pub mod Table
 pub mod Filling
+pub mod Exponent
+pub mod Filter
