@@ -4,3 +4,5 @@ pub mod Runs
 pub mod Filled
 pub mod Laying
 pub mod Turning
+pub mod Members
+pub mod Bits

@@ -12,10 +12,10 @@ use Rattle.spl_quotient.proofs.Turns.{place_ahead, place_round}
 div-mono : (a b : ℕ) → a ≤ b → a / 2 ^ 12 ≤ b / 2 ^ 12
 div-mono a b below = omega arith
 
-position_ahead : (origin len number : ℕ) → origin ≤ number → position_in origin len number ≡ number - origin
+pub position_ahead : (origin len number : ℕ) → origin ≤ number → position_in origin len number ≡ number - origin
 position_ahead origin len number from = rw (le-ltb number origin from) refl
 
-position_round : (origin len number : ℕ) → number < origin → position_in origin len number ≡ number + len - origin
+pub position_round : (origin len number : ℕ) → number < origin → position_in origin len number ≡ number + len - origin
 position_round origin len number before = rw (lt-ltb number origin before) refl
 
 module _ (prints : List ℕ) (sorted : IsStrictlyIncreasing prints) where
