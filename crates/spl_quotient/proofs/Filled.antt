@@ -1,12 +1,11 @@
 -- A filled table after one more remainder is laid.
-use Rattle.std.proofs.Common.{◌≡◌, ◌≢◌, ℕ, zero, suc, ◌+◌, ◌-◌, ◌<◌, ◌≤◌, ◌⊎◌, ◌↔◌, max, List, length, get_or, set, Bool, true, false, ◌&&◌, ◌||◌, not, ◌==◌, nat_lt, refl, sym, ap, ◌∙◌, inl, inr, arith, length-set, get_or-set_same, get_or-set_other}
-use Rattle.std.proofs.lemmas.Bool.{cases_lt, cases_eq, cases_Bool, and_parts, and_from, both_ways, eq-eqb, eqb-true, ne_eqb, lt-ltb, le-ltb}
+use Rattle.std.proofs.Common.{◌≡◌, ◌≢◌, ℕ, suc, ◌+◌, ◌<◌, ◌≤◌, ◌⊎◌, max, List, length, set, Bool, true, false, ◌&&◌, not, ◌==◌, nat_lt, refl, sym, ap, ◌∙◌, inl, inr, arith, length-set, get_or-set_same, get_or-set_other}
+use Rattle.std.proofs.lemmas.Bool.{cases_lt, cases_eq, and_parts, and_from, both_ways, eq-eqb, eqb-true, ne_eqb, lt-ltb, le-ltb}
 use Rattle.spl_quotient.specs.Slot.{Slot, blank, is_used, begins_run}
-use Rattle.spl_quotient.specs.Counts.{some_below}
 use Rattle.spl_quotient.specs.Table.{at, occupied_at, used_at, begins_at, homes, runs, has_at, has, IsLaid}
 use Rattle.spl_quotient.specs.Filling.{IsFilled, Gains}
 use Rattle.spl_quotient.proofs.Tallies.{tally_none, tally_mono, tally_strict, tally_same, tally_more, some_found, some_where}
-use Rattle.spl_quotient.proofs.Runs.{balanced_before, used_shifted, used_occupied, used_begins, begins-continuation}
+use Rattle.spl_quotient.proofs.Runs.{used_shifted, used_occupied, begins-continuation}
 
 -- what a table has, as its parts
 pub record Has (slots : List Slot) (home remainder : ℕ) : Type 0 where
@@ -20,9 +19,9 @@ pub record Has (slots : List Slot) (home remainder : ℕ) : Type 0 where
 pub has_from : (slots : List Slot) (home remainder : ℕ) → Has slots home remainder → has slots home remainder ≡ true
 has_from slots home remainder parts =
     and_from _ _ parts.occupied (
-      some_found (has_at slots (homes slots (suc home)) remainder) parts.place (length slots) parts.within (
-        and_from _ _ (and_from _ _ parts.used (eq-eqb _ _ parts.number)) (eq-eqb _ _ parts.same)
-      )
+    some_found (has_at slots (homes slots (suc home)) remainder) parts.place (length slots) parts.within (
+    and_from _ _ (and_from _ _ parts.used (eq-eqb _ _ parts.number)) (eq-eqb _ _ parts.same)
+    )
     )
 
 pub has_parts : (slots : List Slot) (home remainder : ℕ) → has slots home remainder ≡ true → Has slots home remainder
@@ -84,10 +83,10 @@ module _ (slots new : List Slot) (place home remainder : ℕ) (more : Bool) (w :
   occupied_kept : (j : ℕ) → j ≢ home → occupied_at new j ≡ occupied_at slots j
   occupied_kept j other = elim (cases_eq j place) [
     | inl same ↦
-      ap (occupied_at new) same
-      ∙ ap (λ (slot : Slot). slot.occupied) w.here
-      ∙ ne_eqb home place (λ e. other (same ∙ sym e))
-      ∙ sym (ap (λ (slot : Slot). slot.occupied) (ready.blank j (omega arith)))
+        ap (occupied_at new) same
+        ∙ ap (λ (slot : Slot). slot.occupied) w.here
+        ∙ ne_eqb home place (λ e. other (same ∙ sym e))
+        ∙ sym (ap (λ (slot : Slot). slot.occupied) (ready.blank j (omega arith)))
     | inr elsewhere ↦ ap (λ (slot : Slot). slot.occupied) (w.others j elsewhere other)
   ]
 
@@ -98,16 +97,16 @@ module _ (slots new : List Slot) (place home remainder : ℕ) (more : Bool) (w :
   used_place = elim (cases_lt home place) [
     | inl apart ↦ used_shifted (at new place) (shifted_place apart)
     | inr same ↦
-      let e : home ≡ place = omega (arith, w.before) in
-      used_occupied (at new place) (ap (occupied_at new) (sym e) ∙ occupied_home)
+        let e : home ≡ place = omega (arith, w.before) in
+        used_occupied (at new place) (ap (occupied_at new) (sym e) ∙ occupied_home)
   ]
 
   used_kept : (j : ℕ) → j ≢ place → used_at new j ≡ used_at slots j
   used_kept j elsewhere = elim (cases_eq j home) [
     | inl same ↦
-      ap (used_at new) same
-      ∙ used_occupied (at new home) occupied_home
-      ∙ sym (ap (used_at slots) same ∙ ready.used_home (λ e. elsewhere (same ∙ e)))
+        ap (used_at new) same
+        ∙ used_occupied (at new home) occupied_home
+        ∙ sym (ap (used_at slots) same ∙ ready.used_home (λ e. elsewhere (same ∙ e)))
     | inr other ↦ ap is_used (w.others j elsewhere other)
   ]
 
@@ -139,8 +138,8 @@ module _ (slots new : List Slot) (place home remainder : ℕ) (more : Bool) (w :
     continuation_shifted : (j : ℕ) → (at new j).continuation ≡ true → (at new j).shifted ≡ true
     continuation_shifted j is = elim (cases_eq j place) [
       | inl same ↦
-        let is_more = sym (ap (λ (slot : Slot). slot.continuation) w.here) ∙ sym (ap (λ (n : ℕ). (at new n).continuation) same) ∙ is in
-        ap (λ (n : ℕ). (at new n).shifted) same ∙ shifted_place (apart is_more)
+          let is_more = sym (ap (λ (slot : Slot). slot.continuation) w.here) ∙ sym (ap (λ (n : ℕ). (at new n).continuation) same) ∙ is in
+          ap (λ (n : ℕ). (at new n).shifted) same ∙ shifted_place (apart is_more)
       | inr other ↦ shifted_kept j other ∙ ready.laid.shifted j (sym (continuation_kept j other) ∙ is)
     ]
 
@@ -149,11 +148,11 @@ module _ (slots new : List Slot) (place home remainder : ℕ) (more : Bool) (w :
       | inl same ↦ ap (used_at new) same ∙ used_place
       | inr elsewhere ↦ elim (cases_eq (suc j) place) [
         | inl next ↦
-          let is_more = sym (ap (λ (slot : Slot). slot.continuation) w.here) ∙ sym (ap (λ (n : ℕ). (at new n).continuation) next) ∙ is in
-          elim (cases_eq j home) [
-            | inl same ↦ ap (used_at new) same ∙ used_occupied (at new home) occupied_home
-            | inr other ↦ used_shifted (at new j) (shifted_behind j (omega (arith, apart is_more)) (omega arith))
-          ]
+            let is_more = sym (ap (λ (slot : Slot). slot.continuation) w.here) ∙ sym (ap (λ (n : ℕ). (at new n).continuation) next) ∙ is in
+            elim (cases_eq j home) [
+              | inl same ↦ ap (used_at new) same ∙ used_occupied (at new home) occupied_home
+              | inr other ↦ used_shifted (at new j) (shifted_behind j (omega (arith, apart is_more)) (omega arith))
+            ]
         | inr other ↦ used_kept j elsewhere ∙ ready.laid.follows j (sym (continuation_kept (suc j) other) ∙ is)
       ]
     ]
@@ -186,9 +185,9 @@ module _ (slots new : List Slot) (place home remainder : ℕ) (w : Written slots
   same_begins : (j : ℕ) → begins_at new j ≡ begins_at slots j
   same_begins j = elim (cases_eq j place) [
     | inl same ↦
-      ap (begins_at new) same
-      ∙ begins-continuation (at new place) (ap (λ (slot : Slot). slot.continuation) w.here)
-      ∙ sym (ap begins_run (ready.blank j (omega arith)))
+        ap (begins_at new) same
+        ∙ begins-continuation (at new place) (ap (λ (slot : Slot). slot.continuation) w.here)
+        ∙ sym (ap begins_run (ready.blank j (omega arith)))
     | inr elsewhere ↦ begins_kept slots new place home remainder true w ready j elsewhere
   ]
 
@@ -211,9 +210,9 @@ module _ (slots new : List Slot) (place home remainder : ℕ) (w : Written slots
       balanced = λ j unshifted. elim (cases_eq j place) [
         | inl same ↦ absurd (both_ways (at new j).shifted unshifted (ap (λ (n : ℕ). (at new n).shifted) same ∙ shifted_place slots new place home remainder true w ready apart))
         | inr elsewhere ↦
-          same_runs (suc j)
-          ∙ ready.laid.balanced j (sym (shifted_kept slots new place home remainder true w ready j elsewhere) ∙ unshifted)
-          ∙ sym (same_homes (suc j))
+            same_runs (suc j)
+            ∙ ready.laid.balanced j (sym (shifted_kept slots new place home remainder true w ready j elsewhere) ∙ unshifted)
+            ∙ sym (same_homes (suc j))
       ];
       shifted = continuation_shifted slots new place home remainder true w ready (λ e. apart);
       follows = continuation_follows slots new place home remainder true w ready (λ e. apart);
@@ -255,21 +254,21 @@ module _ (slots new : List Slot) (place home remainder : ℕ) (w : Written slots
       gained : Has new h r → (has slots h r ≡ true) ⊎ ((h ≡ home) × (r ≡ remainder))
       gained is = elim (cases_eq is.place place) [
         | inl same ↦
-          let numbers : homes slots (suc h) ≡ homes slots (suc home) =
+            let numbers : homes slots (suc h) ≡ homes slots (suc home) =
             sym (same_homes (suc h)) ∙ sym is.number ∙ ap (λ (n : ℕ). runs new (suc n)) same ∙ same_runs (suc place) ∙ last_run in
-          inr (
-            last_occupied slots h home (sym (same_occupied h) ∙ is.occupied) was numbers (ready.free h),
-            sym is.same ∙ ap (λ (n : ℕ). (at new n).remainder) same ∙ ap (λ (slot : Slot). slot.remainder) w.here,
-          )
+            inr (
+              last_occupied slots h home (sym (same_occupied h) ∙ is.occupied) was numbers (ready.free h),
+              sym is.same ∙ ap (λ (n : ℕ). (at new n).remainder) same ∙ ap (λ (slot : Slot). slot.remainder) w.here,
+            )
         | inr elsewhere ↦
-          inl (has_from slots h r (record {
-            occupied = sym (same_occupied h) ∙ is.occupied;
-            place = is.place;
-            within = omega (arith, w.same_length, is.within);
-            used = sym (used_kept slots new place home remainder true w ready is.place elsewhere) ∙ is.used;
-            number = sym (same_runs (suc is.place)) ∙ is.number ∙ same_homes (suc h);
-            same = sym (remainder_kept slots new place home remainder true w ready is.place elsewhere) ∙ is.same;
-          }))
+            inl (has_from slots h r (record {
+              occupied = sym (same_occupied h) ∙ is.occupied;
+              place = is.place;
+              within = omega (arith, w.same_length, is.within);
+              used = sym (used_kept slots new place home remainder true w ready is.place elsewhere) ∙ is.used;
+              number = sym (same_runs (suc is.place)) ∙ is.number ∙ same_homes (suc h);
+              same = sym (remainder_kept slots new place home remainder true w ready is.place elsewhere) ∙ is.same;
+            }))
       ]
 
 -- the remainder begins a run
@@ -303,23 +302,23 @@ module _ (slots new : List Slot) (place home remainder : ℕ) (w : Written slots
   balanced_on : (j : ℕ) → (at new j).shifted ≡ false → runs new (suc j) ≡ homes new (suc j)
   balanced_on j unshifted = elim (cases_eq j place) [
     | inl same ↦
-      rw same (omega (
-        arith,
-        w.before,
-        runs_behind (suc place) (omega arith),
-        homes_behind (suc place) (omega (arith, w.before)),
-        ready.laid.balanced place (ap (λ (slot : Slot). slot.shifted) (ready.blank place (omega arith))),
-      ))
+        rw same (omega (
+          arith,
+          w.before,
+          runs_behind (suc place) (omega arith),
+          homes_behind (suc place) (omega (arith, w.before)),
+          ready.laid.balanced place (ap (λ (slot : Slot). slot.shifted) (ready.blank place (omega arith))),
+        ))
     | inr elsewhere ↦
-      let old = ready.laid.balanced j (sym (shifted_kept slots new place home remainder false w ready j elsewhere) ∙ unshifted) in
-      elim (cases_lt j home) [
-        | inl first ↦ omega (arith, old, w.before, runs_before (suc j) (omega (arith, w.before)), homes_before (suc j) (omega arith))
-        | inr from ↦ elim (cases_lt j place) [
-          | inl inside ↦
-            absurd (both_ways (at new j).shifted unshifted (shifted_kept slots new place home remainder false w ready j elsewhere ∙ under j from inside))
-          | inr behind ↦ omega (arith, old, w.before, runs_behind (suc j) (omega arith), homes_behind (suc j) (omega (arith, w.before)))
+        let old = ready.laid.balanced j (sym (shifted_kept slots new place home remainder false w ready j elsewhere) ∙ unshifted) in
+        elim (cases_lt j home) [
+          | inl first ↦ omega (arith, old, w.before, runs_before (suc j) (omega (arith, w.before)), homes_before (suc j) (omega arith))
+          | inr from ↦ elim (cases_lt j place) [
+            | inl inside ↦
+                absurd (both_ways (at new j).shifted unshifted (shifted_kept slots new place home remainder false w ready j elsewhere ∙ under j from inside))
+            | inr behind ↦ omega (arith, old, w.before, runs_behind (suc j) (omega arith), homes_behind (suc j) (omega (arith, w.before)))
+          ]
         ]
-      ]
   ]
     where
       under : (j : ℕ) → home ≤ j → j < place → (at slots j).shifted ≡ true
@@ -363,7 +362,7 @@ module _ (slots new : List Slot) (place home remainder : ℕ) (w : Written slots
         within = w.within;
         used = used_place slots new place home remainder false w ready;
         number =
-          rw these.0 (runs_behind (suc place) (omega arith) ∙ ap (λ (n : ℕ). n + 1) all_begun ∙ sym (homes_behind (suc home) (omega arith)));
+            rw these.0 (runs_behind (suc place) (omega arith) ∙ ap (λ (n : ℕ). n + 1) all_begun ∙ sym (homes_behind (suc home) (omega arith)));
         same = ap (λ (slot : Slot). slot.remainder) w.here ∙ sym these.1;
       })
     ],
@@ -394,43 +393,43 @@ module _ (slots new : List Slot) (place home remainder : ℕ) (w : Written slots
       gained is = elim (cases_eq is.place place) [
         | inl same ↦ elim (cases_eq h home) [
           | inl home_is ↦
-            inr (home_is, sym is.same ∙ ap (λ (n : ℕ). (at new n).remainder) same ∙ ap (λ (slot : Slot). slot.remainder) w.here)
+              inr (home_is, sym is.same ∙ ap (λ (n : ℕ). (at new n).remainder) same ∙ ap (λ (slot : Slot). slot.remainder) w.here)
           | inr other ↦
-            let before : h < home = omega (arith, upto is.occupied) in
-            let number = ap (λ (n : ℕ). runs new (suc n)) (sym same) ∙ is.number in
-            absurd (omega (
-              arith,
-              number,
-              runs_behind (suc place) (omega arith),
-              all_begun,
-              homes_before (suc h) (omega arith),
-              tally_mono (occupied_at slots) (suc h) (suc home) (omega arith),
-            ))
-        ]
-        | inr elsewhere ↦
-          let used = sym (used_kept slots new place home remainder false w ready is.place elsewhere) ∙ is.used in
-          let inside = used_before slots place home ready is.place used in
-          elim (cases_eq h home) [
-            | inl home_is ↦
-              let number = is.number ∙ ap (λ (n : ℕ). homes new (suc n)) home_is in
+              let before : h < home = omega (arith, upto is.occupied) in
+              let number = ap (λ (n : ℕ). runs new (suc n)) (sym same) ∙ is.number in
               absurd (omega (
                 arith,
                 number,
-                runs_before (suc is.place) (omega arith),
+                runs_behind (suc place) (omega arith),
                 all_begun,
-                homes_behind (suc home) (omega arith),
-                tally_mono (begins_at slots) (suc is.place) (suc place) (omega arith),
+                homes_before (suc h) (omega arith),
+                tally_mono (occupied_at slots) (suc h) (suc home) (omega arith),
               ))
-            | inr other ↦
-              inl (has_from slots h r (record {
-                occupied = sym (occupied_kept slots new place home remainder false w ready h other) ∙ is.occupied;
-                place = is.place;
-                within = omega (arith, w.same_length, is.within);
-                used = used;
-                number = sym (runs_before (suc is.place) (omega arith)) ∙ is.number ∙ homes_before (suc h) (omega (arith, upto is.occupied));
-                same = sym (remainder_kept slots new place home remainder false w ready is.place elsewhere) ∙ is.same;
-              }))
-          ]
+        ]
+        | inr elsewhere ↦
+            let used = sym (used_kept slots new place home remainder false w ready is.place elsewhere) ∙ is.used in
+            let inside = used_before slots place home ready is.place used in
+            elim (cases_eq h home) [
+              | inl home_is ↦
+                  let number = is.number ∙ ap (λ (n : ℕ). homes new (suc n)) home_is in
+                  absurd (omega (
+                    arith,
+                    number,
+                    runs_before (suc is.place) (omega arith),
+                    all_begun,
+                    homes_behind (suc home) (omega arith),
+                    tally_mono (begins_at slots) (suc is.place) (suc place) (omega arith),
+                  ))
+              | inr other ↦
+                  inl (has_from slots h r (record {
+                    occupied = sym (occupied_kept slots new place home remainder false w ready h other) ∙ is.occupied;
+                    place = is.place;
+                    within = omega (arith, w.same_length, is.within);
+                    used = used;
+                    number = sym (runs_before (suc is.place) (omega arith)) ∙ is.number ∙ homes_before (suc h) (omega (arith, upto is.occupied));
+                    same = sym (remainder_kept slots new place home remainder false w ready is.place elsewhere) ∙ is.same;
+                  }))
+            ]
       ]
 
 -- one more remainder, by what is written

@@ -1,10 +1,10 @@
 -- An empty table, and what a table has after one fingerprint more.
-use Rattle.std.proofs.Common.{◌≡◌, ℕ, zero, suc, ◌+◌, ◌%◌, ◌^◌, ◌<◌, ◌≤◌, ◌⊎◌, ◌↔◌, List, length, get_or, Bool, true, false, ◌&&◌, refl, sym, ap, subst, ◌∙◌, inl, inr, arith, add-one}
+use Rattle.std.proofs.Common.{◌≡◌, ℕ, suc, ◌+◌, ◌%◌, ◌^◌, ◌↔◌, List, length, true, false, sym, ap, ◌∙◌, inl, inr, arith}
 use Rattle.std.specs.Prelude.{All}
 use Rattle.std.proofs.lemmas.Bool.{cases_lt, cases_eq, and_left}
 use Rattle.std.proofs.lemmas.List.{get_or_past}
 use Rattle.spl_quotient.specs.Slot.{Slot, blank, begins_run}
-use Rattle.spl_quotient.specs.Table.{at, occupied_at, begins_at, homes, runs, has, home_in, IsLaid}
+use Rattle.spl_quotient.specs.Table.{at, occupied_at, begins_at, homes, runs, has, home_in}
 use Rattle.spl_quotient.specs.Filling.{IsFilled, Gains, HasPrint, print_at}
 use Rattle.spl_quotient.proofs.Tallies.{tally_none, tally-zero}
 
@@ -57,10 +57,10 @@ module _ (prints : List ℕ) (first origin len : ℕ) where
     ],
     λ found. elim (cases_eq found.0 i) [
       | inl same ↦
-        (gains h r).1 (inr (
-          sym found.2 ∙ ap (λ (k : ℕ). home_in origin len (print_at prints first k)) same ∙ sym home_is,
-          sym found.3 ∙ ap (λ (k : ℕ). print_at prints first k % 2 ^ 12) same ∙ sym remainder_is,
-        ))
+          (gains h r).1 (inr (
+            sym found.2 ∙ ap (λ (k : ℕ). home_in origin len (print_at prints first k)) same ∙ sym home_is,
+            sym found.3 ∙ ap (λ (k : ℕ). print_at prints first k % 2 ^ 12) same ∙ sym remainder_is,
+          ))
       | inr other ↦ (gains h r).1 (inl ((before h r).1 (found.0, omega (arith, found.1), found.2, found.3)))
     ],
   )

@@ -1,7 +1,7 @@
 -- Which fingerprints a table shows.
-use Rattle.std.proofs.Common.{◌≡◌, ◌≢◌, ℕ, zero, suc, ◌+◌, ◌-◌, ◌*◌, ◌/◌, ◌%◌, ◌^◌, ◌<◌, ◌≤◌, ◌⊎◌, ◌↔◌, Bool, true, false, cond, List, [], ◌∷◌, ◌++◌, length, get_or, refl, sym, ap, ap₂, subst, ◌∙◌, inl, inr, arith}
+use Rattle.std.proofs.Common.{◌≡◌, ℕ, zero, suc, ◌+◌, ◌-◌, ◌/◌, ◌%◌, ◌^◌, ◌<◌, ◌↔◌, Bool, true, List, [], ◌∷◌, ◌++◌, length, get_or, sym, ap, subst, ◌∙◌, inl, inr, arith}
 use Rattle.std.specs.Prelude.{All, Contains, IsTrue, slice_index}
-use Rattle.std.proofs.lemmas.Bool.{cases_lt, cases_eq, cases_Bool, both_ways}
+use Rattle.std.proofs.lemmas.Bool.{cases_lt, cases_eq, cases_Bool}
 use Rattle.std.proofs.lemmas.List.{append-nil, get_or_default}
 use Rattle.std.proofs.lemmas.List.Elements.{Contains-append_left, Contains-push, Contains-push_cases, Contains-get_or, All-contains}
 use Rattle.std.proofs.Math.Nat.{div-lt_iff_lt-mul}
@@ -19,15 +19,15 @@ module _ (test : ℕ → Bool) where
   contains_passing zero x found = absurd (omega (arith, found.1))
   contains_passing (suc n) x found = elim (cases_Bool (test n)) [
     | inl pass ↦
-      let found_push : Contains (passing test n ++ n ∷ []) x = rw pass at found in
-      elim (Contains-push_cases (passing test n) n x found_push) [
-        | inl before ↦ let rest = contains_passing n x before in (omega (arith, rest.0), rest.1)
-        | inr last ↦ (omega arith, ap test (sym last) ∙ pass)
-      ]
+        let found_push : Contains (passing test n ++ n ∷ []) x = rw pass at found in
+        elim (Contains-push_cases (passing test n) n x found_push) [
+          | inl before ↦ let rest = contains_passing n x before in (omega (arith, rest.0), rest.1)
+          | inr last ↦ (omega arith, ap test (sym last) ∙ pass)
+        ]
     | inr fail ↦
-      let found_rest : Contains (passing test n ++ []) x = rw fail at found in
-      let rest = contains_passing n x (rw append-nil at found_rest) in
-      (omega (arith, rest.0), rest.1)
+        let found_rest : Contains (passing test n ++ []) x = rw fail at found in
+        let rest = contains_passing n x (rw append-nil at found_rest) in
+        (omega (arith, rest.0), rest.1)
   ]
 
   pub passing_contains : (n x : ℕ) → x < n → test x ≡ true → Contains (passing test n) x
@@ -35,8 +35,8 @@ module _ (test : ℕ → Bool) where
   passing_contains zero x below pass = absurd (omega arith)
   passing_contains (suc n) x below pass = elim (cases_eq x n) [
     | inl same ↦
-      let here : test n ≡ true = ap test (sym same) ∙ pass in
-      rw (here, same) (Contains-push (passing test n) n)
+        let here : test n ≡ true = ap test (sym same) ∙ pass in
+        rw (here, same) (Contains-push (passing test n) n)
     | inr other ↦ Contains-append_left (passing test n) _ x (passing_contains n x (omega arith) pass)
   ]
 
@@ -82,12 +82,12 @@ module _ (q : ℕ) (table : Table) (prints : List ℕ) (first : ℕ) (len : leng
   unfolding prints_in
   built_is_shown print built =
       passing_contains (λ print. has table.slots (home_in table.origin (length table.slots) print) (print % 2 ^ 12)) (2 ^ (q + 12)) print (All-contains (λ print. print < 2 ^ (q + 12)) prints print bits built) (
-        (has_prints (home_in table.origin (length table.slots) print) (print % 2 ^ 12)).1 (
-          let turn = turn_of first (length prints) built.0 (inside (omega (arith, built.1))) built.1 in
-          let same : print_at prints first turn.0 ≡ print =
-            ap (λ (j : ℕ). get_or prints j 0) turn.2 ∙ get_or_default prints built.0 0 print built.1 ∙ built.2 in
-          (turn.0, turn.1, ap (home_in table.origin (length table.slots)) same, ap (λ (n : ℕ). n % 2 ^ 12) same)
-        )
+      (has_prints (home_in table.origin (length table.slots) print) (print % 2 ^ 12)).1 (
+      let turn = turn_of first (length prints) built.0 (inside (omega (arith, built.1))) built.1 in
+      let same : print_at prints first turn.0 ≡ print =
+      ap (λ (j : ℕ). get_or prints j 0) turn.2 ∙ get_or_default prints built.0 0 print built.1 ∙ built.2 in
+      (turn.0, turn.1, ap (home_in table.origin (length table.slots)) same, ap (λ (n : ℕ). n % 2 ^ 12) same)
+      )
       )
 
 -- a table shows a fingerprint if it has its remainder in the run of its home

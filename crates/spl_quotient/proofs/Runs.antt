@@ -85,7 +85,7 @@ module _ (slots : List Slot) (laid : IsLaid slots) where
     pub has_here : begins_at slots run ≡ true → position < length slots → (at slots position).remainder ≡ remainder → some_below (has_at slots (runs slots (suc run)) remainder) (length slots) ≡ true
     has_here begins within same =
         some_found (has_at slots (runs slots (suc run)) remainder) position (length slots) within (
-          and_from _ _ (and_from _ _ used (eq-eqb _ _ runs_continued)) (eq-eqb _ _ same)
+        and_from _ _ (and_from _ _ used (eq-eqb _ _ runs_continued)) (eq-eqb _ _ same)
         )
       where
         used : used_at slots position ≡ true
@@ -99,12 +99,12 @@ module _ (slots : List Slot) (laid : IsLaid slots) where
   has_not run end remainder begins after over missed =
       some_none (has_at slots (runs slots (suc run)) remainder) (length slots) (λ place within. elim (cases_lt place run) [
         | inl before ↦
-          and_left _ _ (and_right (used_at slots place) _ (ne_eqb _ _ (λ same. absurd (omega (arith, tally_strict (begins_at slots) (suc place) run (suc run) begins (omega arith) (omega arith))))))
+            and_left _ _ (and_right (used_at slots place) _ (ne_eqb _ _ (λ same. absurd (omega (arith, tally_strict (begins_at slots) (suc place) run (suc run) begins (omega arith) (omega arith))))))
         | inr from ↦ elim (cases_lt place end) [
           | inl inside ↦ and_right _ _ (ne_eqb _ _ (missed place from inside))
           | inr behind ↦ elim (cases_Bool (used_at slots place)) [
             | inl used ↦
-              and_left _ _ (and_right (used_at slots place) _ (ne_eqb _ _ (λ same.
+                and_left _ _ (and_right (used_at slots place) _ (ne_eqb _ _ (λ same.
                 let sum : (place - end) + end ≡ place = omega arith in
                 let used_sum : used_at slots ((place - end) + end) ≡ true = rw sum used in
                 let more = back_to end (place - end) used_sum (λ t past upto. none_between (begins_at slots) (suc run) (suc place) t (sym same) (omega arith) (omega arith)) in

@@ -1,6 +1,6 @@
 -- Lemmas on counting the numbers that pass a test.
-use Rattle.std.proofs.Common.{◌≡◌, ◌≢◌, ℕ, zero, suc, ◌+◌, ◌-◌, ◌<◌, ◌≤◌, Bool, true, false, ◌||◌, cond, refl, sym, ap, ap₂, ◌∙◌, inl, inr, arith, add-one}
-use Rattle.std.proofs.lemmas.Bool.{cases_lt, cases_eq, cases_Bool, or_cases}
+use Rattle.std.proofs.Common.{◌≡◌, ◌≢◌, ℕ, zero, suc, ◌+◌, ◌-◌, ◌<◌, ◌≤◌, Bool, true, false, ◌||◌, cond, refl, sym, ap, ◌∙◌, inl, inr, arith, add-one}
+use Rattle.std.proofs.lemmas.Bool.{cases_eq, cases_Bool, or_cases}
 use Rattle.spl_quotient.specs.Counts.{tally, some_below}
 
 pub or_true : (b : Bool) → (b || true) ≡ true
@@ -58,8 +58,8 @@ module _ (test : ℕ → Bool) where
   tally_none i (suc j) below none = elim (cases_eq i (suc j)) [
     | inl same ↦ rw same refl
     | inr other ↦
-      tally_none i j (omega arith) (λ k from under. none k from (omega arith))
-      ∙ sym (tally-fail j (none j (omega arith) (omega arith)))
+        tally_none i j (omega arith) (λ k from under. none k from (omega arith))
+        ∙ sym (tally-fail j (none j (omega arith) (omega arith)))
   ]
 
   -- where the counts agree, none passes between
@@ -106,13 +106,13 @@ module _ (test other : ℕ → Bool) where
   tally_more m zero was is same below = absurd (omega arith)
   tally_more m (suc n) was is same below = elim (cases_eq m n) [
     | inl last ↦
-      let before = tally_same m (λ k under. same k (omega arith)) in
-      rw (← last) (omega (arith, before, tally-fail test m was, tally-pass other m is))
+        let before = tally_same m (λ k under. same k (omega arith)) in
+        rw (← last) (omega (arith, before, tally-fail test m was, tally-pass other m is))
     | inr earlier ↦
-      let before = tally_more m n was is same (omega arith) in
-      let here = same n (λ e. earlier (sym e)) in
-      elim (cases_Bool (test n)) [
-        | inl pass ↦ omega (arith, tally-pass test n pass, tally-pass other n (here ∙ pass))
-        | inr fail ↦ omega (arith, tally-fail test n fail, tally-fail other n (here ∙ fail))
-      ]
+        let before = tally_more m n was is same (omega arith) in
+        let here = same n (λ e. earlier (sym e)) in
+        elim (cases_Bool (test n)) [
+          | inl pass ↦ omega (arith, tally-pass test n pass, tally-pass other n (here ∙ pass))
+          | inr fail ↦ omega (arith, tally-fail test n fail, tally-fail other n (here ∙ fail))
+        ]
   ]

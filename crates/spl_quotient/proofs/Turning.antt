@@ -1,10 +1,9 @@
 -- The fingerprints in order come in turn from the one whose quotient is the farthest ahead of its place.
-use Rattle.std.proofs.Common.{◌≡◌, ◌≢◌, ℕ, zero, suc, ◌+◌, ◌-◌, ◌*◌, ◌/◌, ◌%◌, ◌^◌, ◌<◌, ◌≤◌, List, length, refl, sym, ap, ◌∙◌, inl, inr, arith, add-one}
+use Rattle.std.proofs.Common.{◌≡◌, ℕ, zero, suc, ◌+◌, ◌-◌, ◌/◌, ◌^◌, ◌<◌, ◌≤◌, List, length, refl, ap, ◌∙◌, inl, inr, arith, add-one}
 use Rattle.std.specs.Prelude.{slice_index}
 use Rattle.std.specs.List.Sorted.{IsStrictlyIncreasing}
-use Rattle.std.proofs.Math.Nat.{le-div_iff_mul-le, mul-div-le, div-mul-le_self}
-use Rattle.std.proofs.lemmas.Bool.{cases_lt, cases_eq, lt-ltb, le-ltb}
-use Rattle.spl_quotient.specs.Table.{place_in_turn, position_in, home_in}
+use Rattle.std.proofs.lemmas.Bool.{cases_lt, lt-ltb, le-ltb}
+use Rattle.spl_quotient.specs.Table.{position_in, home_in}
 use Rattle.spl_quotient.specs.Filling.{print_at, IsInTurn}
 use Rattle.spl_quotient.proofs.Turns.{place_ahead, place_round}
 
@@ -66,14 +65,14 @@ module _ (prints : List ℕ) (sorted : IsStrictlyIncreasing prints) (first len :
     in_order : (k : ℕ) → suc k < length prints → home_in (slice_index prints first / 2 ^ 12) len (print_at prints first k) ≤ home_in (slice_index prints first / 2 ^ 12) len (print_at prints first (suc k))
     in_order k within = elim (cases_lt (suc k) (length prints - first)) [
       | inl ahead ↦
-        let same : first + suc k ≡ suc (first + k) = omega arith in
-        rw (home_at_ahead k (omega arith), home_at_ahead (suc k) ahead, same) (omega (arith, quotient_next prints sorted (first + k) (omega arith)))
+          let same : first + suc k ≡ suc (first + k) = omega arith in
+          rw (home_at_ahead k (omega arith), home_at_ahead (suc k) ahead, same) (omega (arith, quotient_next prints sorted (first + k) (omega arith)))
       | inr beyond ↦ elim (cases_lt k (length prints - first)) [
         | inl last ↦
-          rw (home_at_ahead k last, home_at_round (suc k) beyond within) (omega (arith, numbers (first + k) (omega arith)))
+            rw (home_at_ahead k last, home_at_round (suc k) beyond within) (omega (arith, numbers (first + k) (omega arith)))
         | inr round ↦
-          let same : suc k - (length prints - first) ≡ suc (k - (length prints - first)) = omega arith in
-          rw (home_at_round k round (omega arith), home_at_round (suc k) beyond within, same) (omega (arith, quotient_next prints sorted (k - (length prints - first)) (omega arith)))
+            let same : suc k - (length prints - first) ≡ suc (k - (length prints - first)) = omega arith in
+            rw (home_at_round k round (omega arith), home_at_round (suc k) beyond within, same) (omega (arith, quotient_next prints sorted (k - (length prints - first)) (omega arith)))
       ]
     ]
 
@@ -81,8 +80,8 @@ module _ (prints : List ℕ) (sorted : IsStrictlyIncreasing prints) (first len :
     room_left k within = elim (cases_lt k (length prints - first)) [
       | inl ahead ↦ rw (home_at_ahead k ahead) (omega (arith, farthest (first + k) (omega arith)))
       | inr round ↦
-        let j = k - (length prints - first) in
-        rw (home_at_round k round within) (omega (arith, farthest (k - (length prints - first)) (omega arith), before_origin (k - (length prints - first)) (omega arith)))
+          let j = k - (length prints - first) in
+          rw (home_at_round k round within) (omega (arith, farthest (k - (length prints - first)) (omega arith), before_origin (k - (length prints - first)) (omega arith)))
     ]
 
     pub in_turn : IsInTurn prints first (slice_index prints first / 2 ^ 12) len

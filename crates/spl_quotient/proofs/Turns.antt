@@ -1,8 +1,7 @@
 -- Lemmas on lists that are read from a place on, and then from their begin.
-use Rattle.std.proofs.Common.{◌≡◌, ◌≢◌, ℕ, ◌+◌, ◌-◌, ◌<◌, ◌≤◌, List, ◌++◌, length, get_or, set, take, drop, replicate, refl, sym, ap, ap₂, ◌∙◌, inl, inr, arith, nat_lt, if◌then◌else◌, length-append, length-drop, length-set, length-take-le, get_or-drop, get_or-take, get_or-set_same, get_or-set_other}
+use Rattle.std.proofs.Common.{◌≡◌, ◌≢◌, ℕ, ◌+◌, ◌-◌, ◌<◌, ◌≤◌, List, ◌++◌, length, get_or, set, take, drop, replicate, refl, sym, ap, ap₂, ◌∙◌, inl, inr, arith, length-append, length-drop, length-set, length-take-le, get_or-drop, get_or-take, get_or-set_same, get_or-set_other}
 use Rattle.std.proofs.lemmas.List.{same_lists, get_or_append_left, get_or-append_right, drop-replicate, take-replicate, replicate-append-replicate}
 use Rattle.std.proofs.lemmas.Bool.{cases_lt, cases_eq, lt-ltb, le-ltb}
-use Rattle.std.proofs.lemmas.Grind.{common_steps}
 use Rattle.spl_quotient.specs.Slot.{Slot}
 use Rattle.spl_quotient.specs.Table.{Table, turned, place_in_turn}
 
@@ -40,13 +39,13 @@ module _ {X : Type 0} where
       let front = length-drop origin xs in
       elim (cases_lt j (len - origin)) [
         | inl near ↦
-          get_or_append_left (drop origin xs) (take origin xs) d j (omega arith)
-          ∙ get_or-drop origin xs j d
-          ∙ sym (ap (λ (n : ℕ). get_or xs n d) (place_ahead origin len j near))
+            get_or_append_left (drop origin xs) (take origin xs) d j (omega arith)
+            ∙ get_or-drop origin xs j d
+            ∙ sym (ap (λ (n : ℕ). get_or xs n d) (place_ahead origin len j near))
         | inr far ↦
-          get_or-append_right (drop origin xs) (take origin xs) (len - origin) j d (omega arith) far
-          ∙ get_or-take origin xs (j - (len - origin)) d (omega arith)
-          ∙ sym (ap (λ (n : ℕ). get_or xs n d) (place_round origin len j far))
+            get_or-append_right (drop origin xs) (take origin xs) (len - origin) j d (omega arith) far
+            ∙ get_or-take origin xs (j - (len - origin)) d (omega arith)
+            ∙ sym (ap (λ (n : ℕ). get_or xs n d) (place_round origin len j far))
       ]
 
   pub turned-replicate : (origin count : ℕ) (x : X) → origin ≤ count → turned origin (replicate count x) ≡ replicate count x
@@ -64,17 +63,17 @@ module _ {X : Type 0} where
       let after = length-turned (set xs place x) origin (omega arith) in
       let placed = place_within origin len j start within in
       same_lists _ _ (after ∙ written ∙ sym before ∙ sym (length-set (turned origin xs) j x)) (λ k d inside.
-        let in_k : k < len = omega arith in
-        get_or-turned (set xs place x) origin len k d (omega arith) start in_k ∙ elim (cases_eq k j) [
-          | inl same ↦
+      let in_k : k < len = omega arith in
+      get_or-turned (set xs place x) origin len k d (omega arith) start in_k ∙ elim (cases_eq k j) [
+        | inl same ↦
             ap (λ (n : ℕ). get_or (set xs place x) (place_in_turn origin len n) d) same
             ∙ get_or-set_same xs place x d (omega arith)
             ∙ sym (ap (λ (n : ℕ). get_or (set (turned origin xs) j x) n d) same ∙ get_or-set_same (turned origin xs) j x d (omega arith))
-          | inr other ↦
+        | inr other ↦
             get_or-set_other xs place (place_in_turn origin len k) x d (places_differ origin len k j start in_k within other)
             ∙ sym (get_or-turned xs origin len k d long start in_k)
             ∙ sym (get_or-set_other (turned origin xs) j k x d other)
-        ])
+      ])
 
 -- tables with the same slots and origin
 pub same_table : (slots others : List Slot) (origin : ℕ) → slots ≡ others → let one : Table = record { slots = slots; origin = origin } in let other : Table = record { slots = others; origin = origin } in one ≡ other

@@ -1,6 +1,6 @@
 -- What a contract sees of a filter: its exponent, and which fingerprints it admits.
-use Rattle.std.specs.Prelude.{◌≡◌, ℕ, ◌*◌, ◌^◌, ◌≤◌, List, length}
-use Rattle.spl_quotient.specs.Table.{Table, prints_in, IsLaid}
+use Rattle.std.specs.Prelude.{◌≡◌, ℕ, ◌^◌, ◌≤◌, List, length}
+use Rattle.spl_quotient.specs.Table.{prints_in, IsLaid}
 use Rattle.spl_quotient.specs.declared.filter.Filter.TheInside.{Inside}
 
 -- the fingerprints have q + 12 bits; they stand in order, each once

@@ -1,5 +1,5 @@
 -- FNV-1a with 64 bits, and the fingerprints that are cut from it.
-use Rattle.std.specs.Prelude.{ℕ, ◌+◌, ◌-◌, ◌*◌, ◌/◌, ◌%◌, ◌^◌, List, fold, bit_xor}
+use Rattle.std.specs.Prelude.{ℕ, ◌-◌, ◌*◌, ◌/◌, ◌%◌, ◌^◌, List, fold, bit_xor}
 use Rattle.spl_quotient.specs.declared.hash.TheConstants.{OFFSET_BASIS, PRIME}
 
 -- the hash with one more byte: first combined, then multiplied

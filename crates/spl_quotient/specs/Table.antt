@@ -1,5 +1,5 @@
 -- What a contract sees of a table of slots: the slots, read from one on that no run from before reaches.
-use Rattle.std.specs.Prelude.{◌≡◌, ℕ, suc, ◌+◌, ◌-◌, ◌/◌, ◌%◌, ◌^◌, ◌<◌, Bool, true, false, ◌==◌, nat_lt, ◌&&◌, if◌then◌else◌, List, ◌++◌, length, take, drop, slice_index_or}
+use Rattle.std.specs.Prelude.{◌≡◌, ℕ, suc, ◌+◌, ◌-◌, ◌/◌, ◌%◌, ◌^◌, Bool, true, false, ◌==◌, nat_lt, ◌&&◌, if◌then◌else◌, List, ◌++◌, length, take, drop, slice_index_or}
 use Rattle.spl_quotient.specs.Slot.{Slot, blank, is_used, begins_run}
 use Rattle.spl_quotient.specs.Counts.{tally, some_below, passing}
 

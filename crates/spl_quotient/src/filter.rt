@@ -40,6 +40,9 @@ impl Filter {
         ensures exponent { IfOk result (λ filter. IsExponent (length keys.now) filter.q) }
         ensures prints { IfOk result (λ filter. (print : ℕ)
             → Contains filter.prints print ↔ Contains (map (fingerprint_of filter.q) keys.now) print) }
+
+        // So no key of the build is missed.
+        ensures keys { IfOk result (λ filter. All (λ key. Contains filter.prints (fingerprint_of filter.q key)) keys.now) }
     {
         let q = exponent_of(keys.len());
         let prints = prints_of(alloc, keys, q)?;

@@ -15,9 +15,10 @@ const PRIME: u64 = 0x100000001b3;
 pub fn fnv(bytes: &[u8]) -> u64
     ensures { result ≡ fnv_of bytes.now }
 {
-    bytes
-        .iter()
-        .fold(OFFSET_BASIS, |hash, byte| (hash ^ u64::from(*byte)).wrapping_mul(PRIME))
+    bytes.iter().fold(
+        OFFSET_BASIS,
+        |hash, byte| (hash ^ u64::from(*byte)).wrapping_mul(PRIME),
+    )
 }
 
 /// The top `q + 12` bits of the key's hash.

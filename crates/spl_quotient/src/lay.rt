@@ -32,13 +32,7 @@ pub(crate) fn lay(table: &mut Table, prints: &[u64], first: usize)
 
 /// Lays a remainder behind all that is laid, or at its home where that lies further on, and gives the next position.
 /// `last` is the home of the run before.
-fn lay_one(
-    table: &mut Table,
-    next: usize,
-    last: usize,
-    home: usize,
-    remainder: u16,
-) -> usize
+fn lay_one(table: &mut Table, next: usize, last: usize, home: usize, remainder: u16) -> usize
     requires filled { IsFilled table.old.slots next last }
     requires order { 0 < next → last ≤ home }
     requires room { next < length table.old.slots }
@@ -54,7 +48,10 @@ fn lay_one(
     let slot = table.slot_at(home);
     table.put(home, slot.occupied());
     let continuation = continues(next, last, home);
-    table.put(place, Slot::new(remainder, home == place, continuation, home < place));
+    table.put(
+        place,
+        Slot::new(remainder, home == place, continuation, home < place),
+    );
     place + 1
 }
 

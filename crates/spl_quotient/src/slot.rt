@@ -1,14 +1,10 @@
 //! A slot of the table: a remainder and three bits, in two bytes.
-//!
-//! | bit          | says                                                                              |
-//! | occupied     | some fingerprint has the slot's number as its quotient; it may lie in a later slot |
-//! | continuation | the remainder here is of the same run as the one before it                        |
-//! | shifted      | the remainder here is not in the slot of its quotient                             |
 ghost use Rattle.std.specs.Prelude.{◌≡◌, ◌≤◌, ◌<◌, ◌^◌, true, false};
 ghost use Rattle.spl_quotient.specs.Slot.{is_used, begins_run, blank};
 
 use std::marker::Model;
 
+/// A remainder of 12 bits, and the bits occupied, continuation and shifted.
 #[derive(Clone, Copy, Debug)]
 pub(crate) struct Slot {
     bits: u16,

@@ -85,5 +85,9 @@ pub(crate) fn number_of(origin: usize, position: usize, len: usize) -> usize
     ensures { result ≡ place_in_turn origin len position }
 {
     let room = len - origin;
-    if position < room { origin + position } else { position - room }
+    if position < room {
+        origin + position
+    } else {
+        position - room
+    }
 }

@@ -1,4 +1,4 @@
-use Rattle.std.proofs.Common.{◌≡◌, ◌<◌, ◌-◌, ℕ, true, false, sym, ap, ◌∙◌, inl, inr, arith}
+use Rattle.std.proofs.Common.{◌≡◌, ◌-◌, true, false, sym, ap, ◌∙◌, arith}
 use Rattle.spl_quotient.specs.Slot.{Slot}
 use Rattle.spl_quotient.specs.Table.{at, occupied_at}
 use Rattle.spl_quotient.proofs.Runs.{shifted_later}

@@ -1,4 +1,4 @@
-use Rattle.std.proofs.Common.{arith, suc, ◌≤◌, length}
+use Rattle.std.proofs.Common.{arith, suc, length}
 use Rattle.spl_quotient.specs.Table.{occupied_at}
 use Rattle.spl_quotient.proofs.Tallies.{tally_mono}
 use Rattle.spl_quotient.proofs.Runs.{balanced_before, balanced_all}

@@ -1,4 +1,4 @@
-use Rattle.std.proofs.Common.{◌≡◌, ◌<◌, ◌≤◌, ◌-◌, ◌+◌, ◌/◌, ◌%◌, ◌^◌, ℕ, suc, ◌↔◌, true, length, get_or, refl, sym, ap, ap₂, subst, ◌∙◌, add-one, arith, rules}
+use Rattle.std.proofs.Common.{◌≡◌, ◌<◌, ◌/◌, ◌%◌, ◌^◌, ℕ, ◌↔◌, true, length, get_or, refl, ap, ap₂, subst, ◌∙◌, add-one, arith}
 use Rattle.spl_quotient.specs.Table.{has, home_in, position_in}
 use Rattle.spl_quotient.specs.Filling.{HasPrint, print_at}
 use Rattle.spl_quotient.proofs.Turns.{place_within}
@@ -31,11 +31,11 @@ loop-i-preserved c =
     let i = c.loop-i.i in
     let invariant = c.loop-i.invariant in
     let home_is : c.position_of-home.result ≡ home_in origin len (print_at prints first i) =
-      c.position_of-home.ensures.value
-      ∙ ap₂ (λ (o l : ℕ). position_in o l (get_or prints c.number_of.result 0 / 4096)) invariant.same_origin invariant.same_len
-      ∙ ap (λ (k : ℕ). position_in origin len (get_or prints k 0 / 4096)) c.number_of.ensures in
+    c.position_of-home.ensures.value
+    ∙ ap₂ (λ (o l : ℕ). position_in o l (get_or prints c.number_of.result 0 / 4096)) invariant.same_origin invariant.same_len
+    ∙ ap (λ (k : ℕ). position_in origin len (get_or prints k 0 / 4096)) c.number_of.ensures in
     let remainder_is : get_or prints c.number_of.result 0 % 4096 ≡ print_at prints first i % 2 ^ 12 =
-      ap (λ (k : ℕ). get_or prints k 0 % 4096) c.number_of.ensures in
+    ap (λ (k : ℕ). get_or prints k 0 % 4096) c.number_of.ensures in
     record {
       filled = c.lay_one-next.ensures.filled;
       ordered = λ more some. rw (home_is, add-one) (c.requires.turn.order i (omega arith));

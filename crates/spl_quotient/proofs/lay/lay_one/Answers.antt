@@ -1,6 +1,6 @@
-use Rattle.std.proofs.Common.{◌≡◌, ℕ, suc, ◌+◌, max, List, set, Bool, true, ◌==◌, nat_lt, sym, ap, ap₂, subst, ◌∙◌, add-one, arith}
+use Rattle.std.proofs.Common.{◌≡◌, ℕ, suc, ◌+◌, max, List, set, true, ◌==◌, nat_lt, sym, ap, ap₂, subst, ◌∙◌, arith}
 use Rattle.spl_quotient.specs.Slot.{Slot}
-use Rattle.spl_quotient.specs.Table.{Table, at}
+use Rattle.spl_quotient.specs.Table.{Table}
 use Rattle.spl_quotient.specs.Filling.{IsFilled, Gains}
 use Rattle.spl_quotient.proofs.Filled.{laid_slots, laid_more}
 use Rattle.spl_quotient.proofs.lay.lay_one.Goals as goal
@@ -21,7 +21,7 @@ returns-clause-filled c =
     let laid = laid_more c.args.table.now.slots c.args.next c.args.last c.args.home c.args.remainder c.continues-continuation.result c.requires.filled c.requires.order c.requires.room c.requires.within c.continues-continuation.ensures.yes c.continues-continuation.ensures.no in
     let end : suc (max c.args.next c.args.home) ≡ c.max-place.result + 1 = omega (arith, c.max-place.ensures) in
     subst (λ slots. IsFilled slots (c.max-place.result + 1) c.args.home) (sym (slots_are c)) (
-      subst (λ n. IsFilled (laid_slots c.args.table.now.slots c.args.next c.args.last c.args.home c.args.remainder c.continues-continuation.result c.requires.filled c.requires.order c.requires.room c.requires.within) n c.args.home) end laid.0
+    subst (λ n. IsFilled (laid_slots c.args.table.now.slots c.args.next c.args.last c.args.home c.args.remainder c.continues-continuation.result c.requires.filled c.requires.order c.requires.room c.requires.within) n c.args.home) end laid.0
     )
 
 pub returns-clause-gains : goal.returns-clause-gains

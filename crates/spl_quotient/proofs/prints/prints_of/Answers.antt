@@ -1,11 +1,10 @@
-use Rattle.std.proofs.Common.{◌≡◌, ℕ, ◌+◌, ◌^◌, ◌<◌, List, map, length, eqb, refl, sym, ap, subst, arith}
-use Rattle.std.specs.Prelude.{All, Contains}
+use Rattle.std.proofs.Common.{ℕ, ◌+◌, ◌^◌, ◌<◌, map, eqb, sym, subst}
+use Rattle.std.specs.Prelude.{Contains}
 use Rattle.std.proofs.lemmas.List.Filters.{dedup_is}
 use Rattle.std.proofs.lemmas.List.Kept.{Contains-dedup_nat, Contains-from_dedup}
 use Rattle.std.proofs.lemmas.List.Sorted.{Contains-permutation, IsPermutation-sym}
 use Rattle.std.proofs.lemmas.List.Elements.{All-map, All-contains, Contains-get_or}
 use Rattle.std.proofs.lemmas.Map.Keys.{IsStrictlyIncreasing-dedup}
-use Rattle.spl_message.specs.declared.key.Key.{Key}
 use Rattle.spl_quotient.specs.Fnv.{fingerprint_of}
 use Rattle.spl_quotient.proofs.Bits.{fingerprint_below}
 use Rattle.spl_quotient.proofs.prints.prints_of.Goals as goal
@@ -25,16 +24,16 @@ returns-clause-sorted c =
 
 pub returns-clause-bits : goal.returns-clause-bits
 returns-clause-bits c = λ k d within.
-  All-contains (λ print. print < 2 ^ (c.args.q + 12)) (map (fingerprint_of c.args.q) c.args.keys.now) _
-  (All-map (λ print. print < 2 ^ (c.args.q + 12)) (fingerprint_of c.args.q) c.args.keys.now (λ i key inside. fingerprint_below c.args.q _ c.requires))
-  (kept c _ (Contains-get_or c.dedup.new.self.items k d within))
+    All-contains (λ print. print < 2 ^ (c.args.q + 12)) (map (fingerprint_of c.args.q) c.args.keys.now) _
+    (All-map (λ print. print < 2 ^ (c.args.q + 12)) (fingerprint_of c.args.q) c.args.keys.now (λ i key inside. fingerprint_below c.args.q _ c.requires))
+    (kept c _ (Contains-get_or c.dedup.new.self.items k d within))
 
 pub returns-clause-members : goal.returns-clause-members
 returns-clause-members c = λ print. (
   kept c print,
   λ found.
-    let cut = dedup_is eqb c.sort_unstable.new.self.items c.dedup.new.self.items c.dedup.ensures.filtered in
-    let first = subst (λ items. Contains items print) (sym c.in_ok-prints.ensures) found in
-    let sorted = Contains-permutation _ _ print c.sort_unstable.ensures.permutation first in
-    subst (λ items. Contains items print) (sym cut) (Contains-dedup_nat c.sort_unstable.new.self.items print sorted),
+      let cut = dedup_is eqb c.sort_unstable.new.self.items c.dedup.new.self.items c.dedup.ensures.filtered in
+      let first = subst (λ items. Contains items print) (sym c.in_ok-prints.ensures) found in
+      let sorted = Contains-permutation _ _ print c.sort_unstable.ensures.permutation first in
+      subst (λ items. Contains items print) (sym cut) (Contains-dedup_nat c.sort_unstable.new.self.items print sorted),
 )

@@ -1,4 +1,4 @@
-use Rattle.std.proofs.Common.{◌≡◌, ℕ, ◌+◌, ◌/◌, ◌%◌, ◌^◌, ◌<◌, ◌↔◌, true, length, sym, ap, ap₂, subst, ◌∙◌, arith}
+use Rattle.std.proofs.Common.{◌≡◌, ℕ, ◌%◌, ◌^◌, ◌↔◌, length, ap, subst, ◌∙◌}
 use Rattle.std.specs.Prelude.{IsTrue, Contains}
 use Rattle.spl_quotient.specs.Filter.{Filter}
 use Rattle.spl_quotient.specs.Fnv.{fingerprint_of}
@@ -16,8 +16,8 @@ returns c =
     let q = c.self.inside.q in
     let print = c.fingerprint-print.result in
     let answer : c.has.result ≡ has table.slots (home_in table.origin (length table.slots) print) (print % 2 ^ 12) =
-      c.has.ensures ∙ ap (λ (home : ℕ). has table.slots home (print % 4096)) c.position_of-home.ensures.value in
+    c.has.ensures ∙ ap (λ (home : ℕ). has table.slots home (print % 4096)) c.position_of-home.ensures.value in
     let shown : IsTrue c.has.result ↔ Contains (prints_in q table) print = shown_iff q table print c.has.result answer c.fingerprint-print.ensures.bits in
     subst (λ (filter : Filter). IsTrue c.has.result ↔ Contains filter.prints (fingerprint_of filter.q c.args.key.now)) c.self.view_is (
-      subst (λ (p : ℕ). IsTrue c.has.result ↔ Contains (prints_in q table) p) c.fingerprint-print.ensures.value shown
+    subst (λ (p : ℕ). IsTrue c.has.result ↔ Contains (prints_in q table) p) c.fingerprint-print.ensures.value shown
     )
