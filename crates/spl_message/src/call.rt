@@ -1,5 +1,8 @@
+ghost use Rattle.std.specs.Prelude.{◌≡◌, IfOk};
+
 use crate::key::Key;
 use crate::message::Message;
+use spl_base::NoMemory;
 
 /// A call on the store.
 #[derive(Debug, PartialEq, Eq, Drop)]
@@ -8,4 +11,16 @@ pub enum Call {
     Put(Key, Message),
     /// Asks for the key's value.
     Look(Key),
+}
+
+impl Call {
+    /// An equal call in memory of its own.
+    pub fn copy(&self) -> Result<Call, NoMemory>
+        ensures ok { IfOk result (λ call. call ≡ self.now) }
+    {
+        match self {
+            Call::Put(key, message) => Ok(Call::Put(*key, message.copy()?)),
+            Call::Look(key) => Ok(Call::Look(*key)),
+        }
+    }
 }

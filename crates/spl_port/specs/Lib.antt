@@ -1,7 +1,14 @@
+pub mod Blur
 pub mod Bytes
+pub mod Calls
 pub mod Counts
+pub mod MemDraft
+pub mod MemPort
 pub mod MemSink
 pub mod MemSource
+pub mod Page
 pub mod Plan
+pub mod Port
+pub mod Seal
 pub mod StdSink
 pub mod StdSource

@@ -3,11 +3,11 @@ use Rattle.std.specs.Prelude.{ℕ, List, Bool, ◌||◌, ◌&&◌, ◌==◌, nat
 use Rattle.spl_port.specs.Plan.{Plan, fails}
 
 -- the bytes that it holds, how many more fit, and the plan of the writes
-pub record Shelf : Type 0 where
+pub record SinkState : Type 0 where
   pub held : List ℕ
   pub room : ℕ
   pub plan : Plan
 
 -- whether it refuses a write of this piece: the call is to fail, or none of some bytes fits
-abbrev pub refuses : Shelf → List ℕ → Bool
+abbrev pub refuses : SinkState → List ℕ → Bool
 refuses sink piece = fails sink.plan || (nat_lt 0 (length piece) && sink.room == 0)

@@ -3,6 +3,6 @@ use Rattle.std.specs.Prelude.{ℕ, List}
 use Rattle.spl_port.specs.Plan.{Plan}
 
 -- the bytes that are left, and the plan of the reads
-pub record Supply : Type 0 where
+pub record SourceState : Type 0 where
   pub left : List ℕ
   pub plan : Plan

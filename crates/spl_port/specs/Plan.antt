@@ -1,7 +1,7 @@
 -- Which calls of something in memory fail.
 use Rattle.std.specs.Prelude.{ℕ, List, Bool, ◌==◌, if◌then◌else◌}
 use Rattle.std.specs.List.{list_any}
-use Rattle.spl_port.specs.Counts.{raised}
+use Rattle.spl_port.specs.Counts.{raised_count}
 
 -- the numbers of the calls that are to fail, and how many calls were made and failed
 pub record Plan : Type 0 where
@@ -21,6 +21,6 @@ fails plan = list_any (λ call. call == plan.calls) plan.failing
 abbrev pub after_call : Plan → Bool → Plan
 after_call plan failed = record {
   failing = plan.failing;
-  calls = raised plan.calls;
-  faults = if failed then raised plan.faults else plan.faults;
+  calls = raised_count plan.calls;
+  faults = if failed then raised_count plan.faults else plan.faults;
 }

@@ -1,26 +1,54 @@
-//! The outside of the store, as its layers see it: streams of bytes.
+//! The outside of the store, as its layers see it: streams of bytes, and devices of pages.
 //!
 //! Each side is a trait with a meaning and with a count of its own faults. A body can't raise that
 //! count by itself, so a clause that ties a refusal to a count that rose refuses a body that gives up.
 #![tactic(auto)]
 
+mod at;
+mod blur;
+mod blur_port;
+mod blur_seal;
+mod calls;
+mod damaged;
 mod failed;
+mod mem_draft;
+mod mem_port;
+mod mem_seal;
 mod mem_sink;
 mod mem_source;
+mod page_bytes;
+mod pager;
+mod port;
 mod schedule;
+mod seal;
 mod sink;
 mod source;
 mod std_sink;
 mod std_source;
+mod tally;
 mod whole;
 
+pub use at::At;
+pub use blur::{Blur, Patches};
+pub use blur_port::BlurPort;
+pub use blur_seal::BlurSeal;
+pub use calls::{CallNumbers, Calls};
+pub use damaged::{Damaged, Why};
 pub use failed::Failed;
+pub use mem_draft::MemDraft;
+pub use mem_port::MemPort;
+pub use mem_seal::MemSeal;
 pub use mem_sink::MemSink;
 pub use mem_source::MemSource;
+pub use page_bytes::{PAGE_BYTES, PageBytes};
+pub use pager::{Direct, Pager};
+pub use port::{Port, PortFault};
+pub use seal::Seal;
 pub use sink::Sink;
 pub use source::Source;
 pub use std_sink::StdSink;
 pub use std_source::StdSource;
+pub use tally::Tally;
 pub use whole::{ReadFault, read_whole, write_whole};
 
 #[cfg(test)]

@@ -21,9 +21,9 @@ pub struct MemSink {
 
 impl Model for MemSink {
     ghost use Rattle.std.specs.Prelude.{◌+◌, ◌≤◌, vec_len, vec_capacity};
-    ghost use Rattle.spl_port.specs.MemSink.{Shelf};
+    ghost use Rattle.spl_port.specs.MemSink.{SinkState};
 
-    ghost Value = { Shelf };
+    ghost Value = { SinkState };
 
     ghost view = { λ s. record { held = s.bytes.items; room = s.room; plan = s.schedule } };
 

@@ -18,9 +18,9 @@ pub struct MemSource {
 
 impl Model for MemSource {
     ghost use Rattle.std.specs.Prelude.{◌≤◌, drop, vec_len};
-    ghost use Rattle.spl_port.specs.MemSource.{Supply};
+    ghost use Rattle.spl_port.specs.MemSource.{SourceState};
 
-    ghost Value = { Supply };
+    ghost Value = { SourceState };
 
     ghost view = { λ s. record { left = drop s.cursor s.bytes.items; plan = s.schedule } };
 

@@ -1,5 +1,6 @@
 ghost use Rattle.std.specs.Prelude.{◌≡◌, ◌≤◌};
 
+use crate::calls::CallNumbers;
 use std::marker::Model;
 
 /// Which calls of something in memory are to fail, and how many were made and failed.
@@ -7,7 +8,7 @@ use std::marker::Model;
 /// Calls are numbered from 0 in the order in which they are made. Both counts stand still at 2^64 - 1.
 #[derive(Debug, Drop)]
 pub(crate) struct Schedule {
-    failing: Vec<u64>,
+    failing: CallNumbers,
     calls: u64,
     faults: u64,
 }
@@ -17,7 +18,7 @@ impl Model for Schedule {
 
     ghost Value = { Plan };
 
-    ghost view = { λ s. record { failing = s.failing.items; calls = s.calls; faults = s.faults } };
+    ghost view = { λ s. record { failing = s.failing; calls = s.calls; faults = s.faults } };
 }
 
 impl Schedule {
@@ -27,7 +28,7 @@ impl Schedule {
         ensures { result ≡ plan_of failing.items }
     {
         Schedule {
-            failing,
+            failing: failing.into(),
             calls: 0,
             faults: 0,
         }
@@ -37,8 +38,7 @@ impl Schedule {
     pub(crate) fn fails(&self) -> bool
         ensures { result ≡ fails self.now }
     {
-        let made = self.calls;
-        self.failing.iter().any(|call| *call == made)
+        self.failing.lists(self.calls)
     }
 
     /// Counts a call, and a fault where it failed.

@@ -25,7 +25,7 @@ impl<X: Write + Drop> StdSink<X> {
 impl<X: Write + Drop> Sink for StdSink<X> {
     ghost use Rattle.std.specs.Prelude.{◌≤◌, ◌<◌, IfOk, OnOk, OnErr, length};
     ghost use Rattle.std.specs.Io.KnownBytes.{WriteAppends};
-    ghost use Rattle.spl_port.specs.Counts.{raised, Rose};
+    ghost use Rattle.spl_port.specs.Counts.{raised_count, Rose};
     ghost use Rattle.spl_port.specs.StdSink.{writer_of, faults_of};
 
     ghost held = { λ _. None };
@@ -35,7 +35,7 @@ impl<X: Write + Drop> Sink for StdSink<X> {
     /// One write of the writer. Each of its errors is a fault, and so is a write of none of some bytes.
     fn write(&mut self, piece: &[u8]) -> Result<usize, Failed>
         ensures bytes { WriteAppends (X.contents (writer_of self.old)) (X.contents (writer_of self.new)) result piece.now }
-        ensures err_count { OnErr result (faults_of self.new ≡ raised (faults_of self.old)) }
+        ensures err_count { OnErr result (faults_of self.new ≡ raised_count (faults_of self.old)) }
 
         // What each sink keeps.
         ensures bound { IfOk result (λ n. n ≤ length piece.now) }

@@ -25,7 +25,7 @@ impl<X: Read + Drop> StdSource<X> {
 impl<X: Read + Drop> Source for StdSource<X> {
     ghost use Rattle.std.specs.Prelude.{◌≤◌, IfOk, OnOk, OnErr, length};
     ghost use Rattle.std.specs.Io.KnownBytes.{ReadConsumes};
-    ghost use Rattle.spl_port.specs.Counts.{raised, Rose};
+    ghost use Rattle.spl_port.specs.Counts.{raised_count, Rose};
     ghost use Rattle.spl_port.specs.StdSource.{reader_of, faults_of};
 
     ghost left = { λ _. None };
@@ -36,7 +36,7 @@ impl<X: Read + Drop> Source for StdSource<X> {
     fn read(&mut self, into: &mut [u8]) -> Result<usize, Failed>
         ensures bytes { ReadConsumes (X.remaining (reader_of self.old)) (X.remaining (reader_of self.new)) result into.new }
         ensures ok_count { OnOk result (faults_of self.new ≡ faults_of self.old) }
-        ensures err_count { OnErr result (faults_of self.new ≡ raised (faults_of self.old)) }
+        ensures err_count { OnErr result (faults_of self.new ≡ raised_count (faults_of self.old)) }
 
         // What each source keeps.
         ensures bound { IfOk result (λ n. n ≤ length into.old) }

@@ -20,6 +20,7 @@ const LF: u8 = b'\n';
 pub fn read_script(alloc: Global, bytes: &[u8], callers: u32) -> Result<Scripts, ScriptFault>
     ensures exact { GivesScript result (script_text callers bytes.now) }
     ensures callers { IfOk result (λ lines. All (λ line. line.caller < callers) lines) }
+    ensures small { OnOk result (length bytes.now ≤ 16777216) }
 {
     let whole = within_limit(bytes);
     let mut lines = Vec::new(alloc);
@@ -27,8 +28,9 @@ pub fn read_script(alloc: Global, bytes: &[u8], callers: u32) -> Result<Scripts,
     let mut rest = whole;
     loop {
         let (text, after) = first_part(rest, LF);
-        let Some(after) = after else {
-            return last_line(lines, text, number, whole.len());
+        let after = match after {
+            Some(after) => after,
+            None => return last_line(lines, text, number, whole.len()),
         };
         let end = whole.len() - after.len();
         match numbered_line(alloc, text, callers, number, end) {
@@ -68,7 +70,7 @@ fn numbered_line(
 ) -> Result<ScriptLine, ScriptFault>
     ensures value { GivesLine result (numbered callers number end text.now) }
     ensures below { IfOk result (λ line. line.caller < callers) }
-    ensures near { OnOk result (number ≤ 500000) }
+    ensures near { OnOk result ((number ≤ 500000) × (end ≤ 16777216)) }
 {
     if is_too_far_down(number, end) {
         return Err(ScriptFault::Line {
@@ -91,7 +93,8 @@ fn last_line(
     end: usize,
 ) -> Result<Scripts, ScriptFault>
     requires { length lines.items ≤ 500000 }
-    ensures { GivesScript result (last_of lines.items number end last.now) }
+    ensures value { GivesScript result (last_of lines.items number end last.now) }
+    ensures none { OnOk result (length last.now ≡ 0) }
 {
     if last.is_empty() {
         return Ok(Scripts::of(lines));

@@ -8,6 +8,7 @@ abbrev pub invariant-loop-after : goal.invariant-loop-after
 invariant-loop-after l = record {
   whole : l.whole ≡ take 16777217 l.fn.bytes;
   within : length l.rest ≤ length l.whole;
+  before : length l.whole - length l.rest ≤ 16777216;
   numbers : l.number ≡ length l.lines.items + 1;
   few : length l.lines.items ≤ 500000;
   callers : All (λ line. line.caller < l.callers) l.lines.items;

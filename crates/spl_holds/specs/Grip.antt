@@ -1,0 +1,23 @@
+-- Tests of one actor's grip on a node.
+use Rattle.std.specs.Prelude.{Bool, true, false}
+use Rattle.spl_holds.specs.declared.grip.Grip.{Grip}
+use Rattle.spl_holds.specs.declared.grip.Grip.TheVariants.{Free, Read, Claim, Write}
+
+abbrev pub is_read : Grip → Bool
+is_read Read = true
+is_read Free = false
+is_read Claim = false
+is_read Write = false
+
+abbrev pub is_write : Grip → Bool
+is_write Write = true
+is_write Free = false
+is_write Read = false
+is_write Claim = false
+
+-- the grip is a claim or a write
+abbrev pub may_write : Grip → Bool
+may_write Claim = true
+may_write Write = true
+may_write Free = false
+may_write Read = false

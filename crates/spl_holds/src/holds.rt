@@ -1,0 +1,146 @@
+ghost use Rattle.std.specs.Prelude.{◌≡◌, ◌<◌, ◌≤◌, [], ◌∷◌, ◌++◌, length, IfOk, OnOk, OnErr, All};
+ghost use Rattle.spl_holds.specs.Latch.{IsLatched, nobody, writer_of, claimant_of, first_reader_of, refused_by};
+ghost use Rattle.spl_holds.specs.Holds.{grips_at, grip_of, with_grip, without_actor};
+
+use crate::grip::Grip;
+use crate::held::Held;
+use crate::latch::Latch;
+use spl_base::NoMemory;
+use std::alloc::Global;
+use std::marker::Model;
+
+/// The actors' numbers are below this one.
+pub const ACTORS: u32 = 32;
+
+/// The trunk has at most this many nodes.
+pub const NODES: u32 = 4096;
+
+/// The grips on the trunk's nodes. In a clause it is a list with the grips on each node, by the
+/// nodes' numbers, and these are the list of what each actor has there, by the actors' numbers.
+///
+/// Only `new` takes memory, about 48 KiB. `leave_all` goes once over the nodes, and each other call
+/// takes the same few steps however many nodes and actors there are.
+#[derive(Debug, Drop)]
+pub struct Holds {
+    latches: Vec<Latch>,
+}
+
+impl Model for Holds {
+    ghost use Rattle.std.specs.Prelude.{List, vec_capacity};
+    ghost use Rattle.spl_holds.specs.declared.grip.Grip.{Grip};
+    ghost use Rattle.spl_holds.specs.Room.{HasRoom};
+
+    ghost Value = { List (List Grip) };
+
+    ghost view = { λ h. h.latches.items };
+
+    ghost invariant = { λ h. HasRoom h.latches.items (vec_capacity h.latches) };
+}
+
+impl Holds {
+    /// Node 0, which nobody holds.
+    pub fn new(alloc: Global) -> Result<Holds, NoMemory>
+        ensures { IfOk result (λ holds. holds ≡ nobody ∷ []) }
+    {
+        let mut latches = Vec::with_capacity(alloc, NODES as usize)?;
+        latches.push(Latch::new())?;
+        Ok(Holds { latches })
+    }
+
+    /// How many nodes there are. Their numbers are those below it.
+    pub fn nodes(&self) -> u32
+        ensures count { result ≡ length self.now }
+        ensures root { 0 < result }
+        ensures limit { result ≤ NODES }
+        ensures latched { All IsLatched self.now }
+    {
+        self.latches.len() as u32
+    }
+
+    /// Adds a node that nobody holds, and gives its number.
+    pub fn add(&mut self) -> u32
+        requires { length self.old < NODES }
+        ensures number { result ≡ length self.old }
+        ensures added { self.new ≡ self.old ++ nobody ∷ [] }
+        ensures latched { All IsLatched self.new }
+    {
+        let node = self.latches.len() as u32;
+        self.latches.push(Latch::new()).unwrap();
+        node
+    }
+
+    /// What the actor has of the node.
+    pub fn grip(&self, actor: u32, node: u32) -> Grip
+        requires known { actor < ACTORS }
+        requires exists { node < length self.now }
+        ensures grip { result ≡ grip_of self.now actor node }
+        ensures latched { All IsLatched self.now }
+    {
+        self.latches[node as usize].grip(actor)
+    }
+
+    /// Lets the actor read the node, unless another actor writes it.
+    pub fn read(&mut self, actor: u32, node: u32) -> Result<(), Held>
+        requires known { actor < ACTORS }
+        requires exists { node < length self.old }
+        requires free { grip_of self.old actor node ≡ Grip.Free }
+        ensures answer { result ≡ refused_by (writer_of (grips_at self.old node)) }
+        ensures ok { OnOk result (self.new ≡ with_grip self.old actor node Grip.Read) }
+        ensures err { OnErr result (self.new ≡ self.old) }
+        ensures latched { All IsLatched self.new }
+    {
+        let latch = &mut self.latches[node as usize];
+        latch.read(actor)
+    }
+
+    /// Lets the actor claim the node, unless another actor has claimed it or writes it.
+    pub fn claim(&mut self, actor: u32, node: u32) -> Result<(), Held>
+        requires known { actor < ACTORS }
+        requires exists { node < length self.old }
+        requires free { grip_of self.old actor node ≡ Grip.Free }
+        ensures answer { result ≡ refused_by (claimant_of (grips_at self.old node)) }
+        ensures ok { OnOk result (self.new ≡ with_grip self.old actor node Grip.Claim) }
+        ensures err { OnErr result (self.new ≡ self.old) }
+        ensures latched { All IsLatched self.new }
+    {
+        let latch = &mut self.latches[node as usize];
+        latch.claim(actor)
+    }
+
+    /// Makes the actor's claim a write, unless another actor reads the node. The lowest-numbered
+    /// reader is named.
+    pub fn lock(&mut self, actor: u32, node: u32) -> Result<(), Held>
+        requires known { actor < ACTORS }
+        requires exists { node < length self.old }
+        requires claimed { grip_of self.old actor node ≡ Grip.Claim }
+        ensures answer { result ≡ refused_by (first_reader_of (grips_at self.old node)) }
+        ensures ok { OnOk result (self.new ≡ with_grip self.old actor node Grip.Write) }
+        ensures err { OnErr result (self.new ≡ self.old) }
+        ensures latched { All IsLatched self.new }
+    {
+        let latch = &mut self.latches[node as usize];
+        latch.lock(actor)
+    }
+
+    /// Ends what the actor has of the node, if it has anything.
+    pub fn leave(&mut self, actor: u32, node: u32)
+        requires known { actor < ACTORS }
+        requires exists { node < length self.old }
+        ensures left { self.new ≡ with_grip self.old actor node Grip.Free }
+        ensures latched { All IsLatched self.new }
+    {
+        let latch = &mut self.latches[node as usize];
+        latch.leave(actor);
+    }
+
+    /// Ends what the actor has of every node.
+    pub fn leave_all(&mut self, actor: u32)
+        requires { actor < ACTORS }
+        ensures left { self.new ≡ without_actor self.old actor }
+        ensures latched { All IsLatched self.new }
+    {
+        for latch in self.latches.iter_mut() {
+            latch.leave(actor);
+        }
+    }
+}

@@ -1,0 +1,244 @@
+-- A run of one caller, line by line: what its rows are so far, and what they are at its end.
+use Rattle.std.proofs.Common.{◌≡◌, ℕ, zero, suc, ◌+◌, ◌<◌, ◌≤◌, Bool, true, false, cond, eqb, ◌⊎◌, inl, inr, List, [], ◌∷◌, ◌++◌, length, get_or, take, drop, map, filter, flat_map, fold, Option, Some, None, is_some, All, refl, ap, ◌∙◌, sym, subst, arith, append_assoc, length-append}
+use Rattle.std.specs.List.{AllByRecursion}
+use Rattle.std.proofs.Math.Dec.{eqb-zero-suc}
+use Rattle.std.proofs.lemmas.List.{append-nil, take-append-le, take_at, drop_at, take_all, take_more, take-append-drop, length-map, map-append}
+use Rattle.std.proofs.lemmas.List.Elements.{All-from_recursion, recursion_from_All, filter-append}
+use Rattle.std.proofs.lemmas.List.Sums.{fold-append}
+use Rattle.std.proofs.lemmas.Grind.{flat_map-append}
+use Rattle.spl_message.specs.declared.answer.Answer.{Answer}
+use Rattle.spl_message.specs.declared.answer.Answer.TheVariants.{Done, Missing, Value}
+use Rattle.spl_message.specs.declared.call.Call.{Call}
+use Rattle.spl_message.specs.declared.call.Call.TheVariants.{Put, Look}
+use Rattle.spl_message.specs.declared.message.Message.{Message}
+use Rattle.spl_message.specs.Answer.{Answered, IsStopped, told_of}
+use Rattle.spl_message.specs.Cell.{Cell, act, act_all}
+use Rattle.spl_message.specs.History.{Event, History, messages_to, cell_at}
+use Rattle.spl_message.specs.Key.{same_key}
+use Rattle.spl_script.specs.declared.script.Deed.{Deed}
+use Rattle.spl_script.specs.declared.script.Deed.TheVariants.{One}
+use Rattle.spl_script.specs.declared.script.ScriptLine.{ScriptLine}
+use Rattle.spl_top.specs.declared.report.Row.{Row}
+use Rattle.spl_top.specs.Legal.{rows_of, lines_of, event_of, history_of, HavePlaces, IsInOrder, IsChain, IsCutShort, Expand, EndEarly, IsAnswered, IsLegal, IsComplete}
+use Rattle.spl_top.specs.Run.{Logs, Stops}
+use Rattle.spl_top.specs.Store.{Cells, SameCells, PutsTo, Puts, AnsweredFrom}
+use Rattle.spl_top.proofs.Lists.{all_push, all_append, all_weaker, filter_all, filter_none}
+
+-- the history of rows that all have places
+abbrev pub events : List Row → History
+events rows = map event_of rows
+
+-- each row from a place on is answered by the history
+abbrev pub AnsweredOn : History → ℕ → List Row → Type 0
+AnsweredOn history place [] = Unit {0}
+AnsweredOn history place (row ∷ rows) = Answered history place row.call row.answer × AnsweredOn history (place + 1) rows
+
+-- so far: the lines that are done made these rows, and the cells are what the rows' calls make
+pub record Ran (done : List ScriptLine) (rows : List Row) (cells : Cells) : Type 0 where
+  pub places : HavePlaces 0 rows
+  pub callers : AllByRecursion (λ (row : Row). row.caller ≡ 0) rows
+  pub expands : Expand done rows
+  pub answers : AnsweredOn (events rows) 0 rows
+  pub are : (key : List ℕ) → cells key ≡ cell_at (events rows) (length rows) key
+
+-- ---- one row more
+
+places_push : (n : ℕ) (rows : List Row) (row : Row) → HavePlaces n rows → row.place ≡ Some (n + length rows) → HavePlaces n (rows ++ row ∷ [])
+places_push n [] row h e = let zero : n + 0 ≡ n = omega arith in (e ∙ ap Some zero, tt)
+places_push n (x ∷ xs) row h e = let shift : n + length (x ∷ xs) ≡ n + 1 + length xs = omega arith in (h.0, places_push (n + 1) xs row h.1 (e ∙ ap Some shift))
+
+expand_push : (done : List ScriptLine) (rows : List Row) (line : ScriptLine) (chain : List Row) → Expand done rows → IsChain line.deed chain → Expand (done ++ line ∷ []) (rows ++ chain)
+expand_push [] rows line chain e c = (chain, [], ap (λ r. r ++ chain) e ∙ sym (append-nil chain), c, refl)
+expand_push (l ∷ ls) rows line chain e c = (e.0, e.1 ++ chain, ap (λ r. r ++ chain) e.2 ∙ append_assoc e.0 e.1 chain, e.3, expand_push ls e.1 line chain e.4 c)
+
+cell_kept : (history : History) (event : Event) (place : ℕ) (key : List ℕ) → place ≤ length history → cell_at (history ++ event ∷ []) place key ≡ cell_at history place key
+cell_kept history event place key within =
+    ap (λ h. act_all key None (flat_map (λ (e : Event). messages_to key e.call) h)) (take-append-le place history (event ∷ []) within)
+
+answered_kept : (history : History) (event : Event) (place : ℕ) (call : Call) (answer : Answer) → place ≤ length history → Answered history place call answer → Answered (history ++ event ∷ []) place call answer
+answered_kept history event place (Put key message) answer within a = a
+answered_kept history event place (Look key) answer within a = a ∙ ap told_of (sym (cell_kept history event place key within))
+
+answers_kept : (history : History) (event : Event) (place : ℕ) (rows : List Row) → place + length rows ≤ length history → AnsweredOn history place rows → AnsweredOn (history ++ event ∷ []) place rows
+answers_kept history event place [] within a = tt
+answers_kept history event place (row ∷ rows) within a =
+    (answered_kept history event place row.call row.answer (omega arith) a.0, answers_kept history event (place + 1) rows (omega arith) a.1)
+
+answers_push : (history : History) (place : ℕ) (rows : List Row) (row : Row) → AnsweredOn history place rows → Answered history (place + length rows) row.call row.answer → AnsweredOn history place (rows ++ row ∷ [])
+answers_push history place [] row a h = let zero : place + 0 ≡ place = omega arith in (subst (λ n. Answered history n row.call row.answer) zero h, tt)
+answers_push history place (x ∷ xs) row a h =
+    let shift : place + length (x ∷ xs) ≡ place + 1 + length xs = omega arith in
+    (a.0, answers_push history (place + 1) xs row a.1 (subst (λ n. Answered history n row.call row.answer) shift h))
+
+act_chosen : (key : List ℕ) (cell : Cell) (message : Message) (b : Bool) → act_all key cell (cond b (message ∷ []) []) ≡ cond b (act key cell message) cell
+act_chosen key cell message true = refl
+act_chosen key cell message false = refl
+
+-- the cell behind the last call is what that call's messages make of the cell before it
+cell_more : (history : History) (event : Event) (key : List ℕ) → cell_at (history ++ event ∷ []) (length history + 1) key ≡ act_all key (cell_at history (length history) key) (messages_to key event.call)
+cell_more history event key =
+    let messages : Event → List Message = λ e. messages_to key e.call in
+    let count : length (history ++ event ∷ []) ≡ length history + 1 = length-append history (event ∷ []) in
+    ap (λ h. act_all key None (flat_map messages h)) (take_all (length history + 1) (history ++ event ∷ []) (omega arith))
+    ∙ ap (act_all key None) (flat_map-append messages history (event ∷ []))
+    ∙ fold-append (act key) None (flat_map messages history) (flat_map messages (event ∷ []))
+    ∙ ap (λ h. act_all key (act_all key None (flat_map messages h)) (flat_map messages (event ∷ []))) (sym (take_all (length history) history (omega arith)))
+    ∙ ap (act_all key (cell_at history (length history) key)) (append-nil (messages_to key event.call))
+
+cells_more : (history : History) (event : Event) (before after : Cells) (key : List ℕ) →
+    ((k : List ℕ) → before k ≡ cell_at history (length history) k) → Puts before after event.call → after key ≡ cell_at (history ++ event ∷ []) (length history + 1) key
+cells_more history event before after key are puts = by event.call puts ∙ sym (cell_more history event key)
+  where
+    by : (call : Call) → Puts before after call → after key ≡ act_all key (cell_at history (length history) key) (messages_to key call)
+    by (Put other message) p =
+        p key ∙ ap (λ cell. cond (same_key other key) (act key cell message) cell) (are key)
+        ∙ sym (act_chosen key (cell_at history (length history) key) message (same_key other key))
+    by (Look other) p = p key ∙ are key
+
+answered_now : (history : History) (before : Cells) (call : Call) (answer : Answer) → ((k : List ℕ) → before k ≡ cell_at history (length history) k) → AnsweredFrom before call answer → Answered history (length history) call answer
+answered_now history before (Put key message) answer are a = a
+answered_now history before (Look key) answer are a = a ∙ ap told_of (are key)
+
+told_is_not_stopped : (cell : Cell) → ¬ (IsStopped (told_of cell))
+told_is_not_stopped None h = h
+told_is_not_stopped (Some value) h = h
+
+not_stopped : (cells : Cells) (call : Call) (answer : Answer) → AnsweredFrom cells call answer → ¬ (IsStopped answer)
+not_stopped cells (Put key message) answer a = λ h. subst IsStopped a h
+not_stopped cells (Look key) answer a = λ h. told_is_not_stopped (cells key) (subst IsStopped a h)
+
+-- nothing is done yet
+pub nothing_ran : (cells : Cells) → ((key : List ℕ) → cells key ≡ None) → Ran [] [] cells
+nothing_ran cells empty = record { places = tt; callers = tt; expands = refl; answers = tt; are = empty }
+
+one_ran : (done : List ScriptLine) (rows : List Row) (row : Row) (before after : Cells) (line : ScriptLine) → Ran done rows before → line.caller ≡ 0 →
+    row.place ≡ Some (length rows) → row.caller ≡ line.caller → line.deed ≡ One row.call → AnsweredFrom before row.call row.answer → Puts before after row.call →
+    Ran (done ++ line ∷ []) (rows ++ row ∷ []) after
+one_ran done rows row before after line ran first place caller call answer puts =
+    let h : History = events rows in
+    let count : length h ≡ length rows = length-map rows event_of in
+    let history : events (rows ++ row ∷ []) ≡ h ++ event_of row ∷ [] = map-append event_of rows (row ∷ []) in
+    let are : (k : List ℕ) → before k ≡ cell_at h (length h) k = λ k. ran.are k ∙ ap (λ n. cell_at h n k) (sym count) in
+    let from_zero : 0 + length rows ≡ length rows = omega arith in
+    let here : Answered h (0 + length rows) row.call row.answer =
+    subst (λ n. Answered h n row.call row.answer) (count ∙ sym from_zero) (answered_now h before row.call row.answer are answer) in
+    let kept : Answered (h ++ event_of row ∷ []) (0 + length rows) row.call row.answer =
+    answered_kept h (event_of row) (0 + length rows) row.call row.answer (omega arith) here in
+    let more : length (rows ++ row ∷ []) ≡ length h + 1 = length-append rows (row ∷ []) ∙ ap (λ n. n + 1) (sym count) in
+    record {
+      places = places_push 0 rows row ran.places (place ∙ ap Some (sym from_zero));
+      callers = all_push _ rows row ran.callers (caller ∙ first);
+      expands = expand_push done rows line (row ∷ []) ran.expands (subst (λ d. IsChain d (row ∷ [])) (sym call) (row, refl, refl, not_stopped before row.call row.answer answer));
+      answers = subst (λ g. AnsweredOn g 0 (rows ++ row ∷ [])) (sym history) (answers_push (h ++ event_of row ∷ []) 0 rows row (answers_kept h (event_of row) 0 rows (omega arith) ran.answers) kept);
+      are = λ key. cells_more h (event_of row) before after key are puts ∙ ap (λ n. cell_at (h ++ event_of row ∷ []) n key) (sym more) ∙ ap (λ g. cell_at g (length (rows ++ row ∷ [])) key) (sym history);
+    }
+
+-- a line is done
+pub line_ran : (done : List ScriptLine) (old new : List Row) (before after : Cells) (line : ScriptLine) → Ran done old before → line.caller ≡ 0 → Logs old new before after line → Ran (done ++ line ∷ []) new after
+line_ran done old new before after line ran first l =
+    subst (λ rows. Ran (done ++ line ∷ []) rows after) (sym l.rows) (one_ran done old l.row before after line ran first l.place l.caller l.call l.answer l.cells)
+
+-- ---- the end
+
+placed_all : (n : ℕ) (rows : List Row) → HavePlaces n rows → AllByRecursion (λ (row : Row). is_some row.place ≡ true) rows
+placed_all n [] h = tt
+placed_all n (row ∷ rows) h = (ap is_some h.0, placed_all (n + 1) rows h.1)
+
+answered_all : (history : History) (n : ℕ) (rows : List Row) → HavePlaces n rows → AnsweredOn history n rows → AllByRecursion (IsAnswered history) rows
+answered_all history n [] h a = tt
+answered_all history n (row ∷ rows) h a =
+    ((λ place is _. let both : Some n ≡ Some place = sym h.0 ∙ is in let same : n ≡ place = cc in subst (λ m. Answered history m row.call row.answer) same a.0), answered_all history (n + 1) rows h.1 a.1)
+
+-- what may stand behind the rows with places: the stopped row of the caller
+record IsTail (tail : List Row) : Type 0 where
+  stopped : AllByRecursion (λ (row : Row). (row.place ≡ None) × IsStopped row.answer) tail
+  callers : AllByRecursion (λ (row : Row). row.caller ≡ 0) tail
+  one : length tail ≤ 1
+
+-- where there is only caller 0, what holds of the whole holds of each caller
+per_caller : (R : List ScriptLine → List Row → Type 0) (script : List ScriptLine) (rows : List Row) → AllByRecursion (λ (line : ScriptLine). line.caller ≡ 0) script →
+    AllByRecursion (λ (row : Row). row.caller ≡ 0) rows → R [] [] → R script rows → (caller : ℕ) → R (lines_of caller script) (rows_of caller rows)
+per_caller R script rows lines_zero rows_zero none whole zero =
+    subst (λ ls. R ls (rows_of 0 rows)) (sym (filter_all _ script (all_weaker _ _ script (λ (line : ScriptLine) e. ap (λ n. eqb n 0) e) lines_zero)))
+    (subst (R script) (sym (filter_all _ rows (all_weaker _ _ rows (λ (row : Row) e. ap (λ n. eqb n 0) e) rows_zero))) whole)
+per_caller R script rows lines_zero rows_zero none whole (suc c) =
+    subst (λ ls. R ls (rows_of (suc c) rows)) (sym (filter_none _ script (all_weaker _ _ script (λ (line : ScriptLine) e. ap (λ n. eqb n (suc c)) e ∙ eqb-zero-suc c) lines_zero)))
+    (subst (R []) (sym (filter_none _ rows (all_weaker _ _ rows (λ (row : Row) e. ap (λ n. eqb n (suc c)) e ∙ eqb-zero-suc c) rows_zero))) none)
+
+legal : (script done : List ScriptLine) (rows tail : List Row) (cells : Cells) → Ran done rows cells → IsTail tail → AllByRecursion (λ (line : ScriptLine). line.caller ≡ 0) script →
+    Expand script (rows ++ tail) ⊎ EndEarly script (rows ++ tail) → IsLegal (rows ++ tail) script
+legal script done rows tail cells ran t zeros expands =
+    let placed : Row → Bool = λ row. is_some row.place in
+    let stopped : Row → Type 0 = λ row. (row.place ≡ None) × IsStopped row.answer in
+    let front : filter placed rows ≡ rows = filter_all placed rows (placed_all 0 rows ran.places) in
+    let back : filter placed tail ≡ [] = filter_none placed tail (all_weaker _ _ tail (λ (row : Row) s. ap is_some s.0) t.stopped) in
+    let history : history_of (rows ++ tail) ≡ events rows =
+    ap events (filter-append placed rows tail ∙ ap (λ r. r ++ filter placed tail) front ∙ ap (λ r. rows ++ r) back ∙ append-nil rows) in
+    let rest : drop (length rows) (rows ++ tail) ≡ tail = drop_at rows tail _ refl in
+    let count : length (map (λ (row : Row). row.caller) (drop (length rows) (rows ++ tail))) ≡ length tail = length-map _ _ ∙ ap length rest in
+    record {
+      order = (
+        length rows,
+        record {
+          within = omega (arith, length-append rows tail);
+          places = subst (HavePlaces 0) (sym (take_at rows tail _ refl)) ran.places;
+          stopped = subst (All stopped) (sym rest) (All-from_recursion stopped tail t.stopped);
+          by_caller = λ k within. absurd (omega (arith, t.one));
+        },
+      );
+      each_caller = per_caller (λ ls rs. Expand ls rs ⊎ EndEarly ls rs) script (rows ++ tail) zeros (all_append _ rows tail ran.callers t.callers) (inl refl) expands;
+      answers = subst (λ h. All (IsAnswered h) (rows ++ tail)) (sym history) (All-from_recursion (IsAnswered (events rows)) (rows ++ tail)
+          (all_append (IsAnswered (events rows)) rows tail (answered_all (events rows) 0 rows ran.places ran.answers) (all_weaker stopped (IsAnswered (events rows)) tail (λ (row : Row) s place is not. absurd (not s.1)) t.stopped)));
+    }
+
+nothing_behind : IsTail []
+nothing_behind = record { stopped = tt; callers = tt; one = omega arith }
+
+-- all lines are done
+pub all_ran : (script : List ScriptLine) (rows : List Row) (cells : Cells) → Ran script rows cells → AllByRecursion (λ (line : ScriptLine). line.caller ≡ 0) script → IsLegal rows script
+all_ran script rows cells ran zeros =
+    let none : rows ++ [] ≡ rows = append-nil rows in
+    subst (λ rs. IsLegal rs script) none (legal script script rows [] cells ran nothing_behind zeros (inl (subst (Expand script) (sym none) ran.expands)))
+
+pub all_complete : (script : List ScriptLine) (rows : List Row) (cells : Cells) → Ran script rows cells → AllByRecursion (λ (line : ScriptLine). line.caller ≡ 0) script → IsComplete rows script
+all_complete script rows cells ran zeros = per_caller Expand script rows zeros ran.callers refl ran.expands
+
+end_early : (done : List ScriptLine) (rows : List Row) (line : ScriptLine) (later : List ScriptLine) (tail : List Row) → Expand done rows → IsCutShort line.deed tail → EndEarly (done ++ line ∷ later) (rows ++ tail)
+end_early [] rows line later tail e cut = inl (subst (IsCutShort line.deed) (sym (ap (λ r. r ++ tail) e)) cut)
+end_early (l ∷ ls) rows line later tail e cut = inr (e.0, e.1 ++ tail, ap (λ r. r ++ tail) e.2 ∙ append_assoc e.0 e.1 tail, e.3, end_early ls e.1 line later tail e.4 cut)
+
+cut_before : (deed : Deed) → IsCutShort deed []
+cut_before (One call) = inl refl
+
+-- the caller ended early in a line
+pub early_ran : (script done : List ScriptLine) (line : ScriptLine) (later : List ScriptLine) (old new : List Row) (cells : Cells) → Ran done old cells →
+    AllByRecursion (λ (line : ScriptLine). line.caller ≡ 0) script → script ≡ done ++ line ∷ later → line.caller ≡ 0 → Stops old new line → IsLegal new script
+early_ran script done line later old new cells ran zeros is first (inl same) =
+    subst (λ rs. IsLegal rs script) (append-nil old ∙ sym same) (legal script done old [] cells ran nothing_behind zeros
+    (inr (subst (λ s. EndEarly s (old ++ [])) (sym is) (end_early done old line later [] ran.expands (cut_before line.deed)))))
+early_ran script done line later old new cells ran zeros is first (inr s) =
+    let row : Row = s.0 in
+    let tail : IsTail (row ∷ []) = record { stopped = ((s.2, s.5), tt); callers = (s.3 ∙ first, tt); one = omega arith } in
+    let cut : IsCutShort line.deed (row ∷ []) = subst (λ d. IsCutShort d (row ∷ [])) (sym s.4) (inr (row, refl, refl, s.5)) in
+    subst (λ rs. IsLegal rs script) (sym s.1) (legal script done old (row ∷ []) cells ran tail zeros
+    (inr (subst (λ sc. EndEarly sc (old ++ row ∷ [])) (sym is) (end_early done old line later (row ∷ []) ran.expands cut))))
+
+-- ---- the script's lines
+
+pub all_zero : (script : List ScriptLine) → All (λ (line : ScriptLine). line.caller < 1) script → AllByRecursion (λ (line : ScriptLine). line.caller ≡ 0) script
+all_zero script below = all_weaker (λ (line : ScriptLine). line.caller < 1) _ script (λ line small. omega arith) (recursion_from_All _ script below)
+
+pub split_line : (script : List ScriptLine) (i : ℕ) (line : ScriptLine) → i < length script → line ≡ get_or script i line → script ≡ take i script ++ line ∷ drop (i + 1) script
+split_line script i line within is =
+    sym (take-append-drop (i + 1) script)
+    ∙ ap (λ front. front ++ drop (i + 1) script) (take_more script i line within ∙ ap (λ x. take i script ++ x ∷ []) (sym is))
+    ∙ append_assoc (take i script) (line ∷ []) (drop (i + 1) script)
+
+pub zero_at : (script : List ScriptLine) (i : ℕ) (line : ScriptLine) → All (λ (line : ScriptLine). line.caller < 1) script → i < length script → line ≡ get_or script i line → line.caller ≡ 0
+zero_at script i line below within is =
+    let small : (get_or script i line).caller < 1 = below i line within in
+    let same : line.caller ≡ (get_or script i line).caller = ap (λ (l : ScriptLine). l.caller) is in
+    omega arith
+
+pub take_line : (script : List ScriptLine) (i : ℕ) (line : ScriptLine) → i < length script → line ≡ get_or script i line → take (i + 1) script ≡ take i script ++ line ∷ []
+take_line script i line within is = take_more script i line within ∙ ap (λ x. take i script ++ x ∷ []) (sym is)

@@ -1,0 +1,71 @@
+-- Legal rows: the rows of a report are one history of the callers' scripts.
+use Rattle.std.specs.Prelude.{◌≡◌, ℕ, ◌+◌, ◌≤◌, ◌<◌, ◌==◌, ◌⊎◌, List, [], ◌∷◌, ◌++◌, length, take, drop, map, filter, All, is_some, Option, Some, None}
+use Rattle.std.specs.List.Sorted.{IsStrictlyIncreasing}
+use Rattle.spl_message.specs.declared.call.Call.{Call}
+use Rattle.spl_message.specs.Answer.{Answered, IsStopped}
+use Rattle.spl_message.specs.History.{Event, History}
+use Rattle.spl_script.specs.declared.script.Deed.{Deed}
+use Rattle.spl_script.specs.declared.script.Deed.TheVariants.{One}
+use Rattle.spl_script.specs.declared.script.ScriptLine.{ScriptLine}
+use Rattle.spl_top.specs.declared.report.Row.{Row}
+
+-- the rows of a caller, and its lines, each in their order
+abbrev pub rows_of : ℕ → List Row → List Row
+rows_of caller rows = filter (λ row. row.caller == caller) rows
+
+abbrev pub lines_of : ℕ → List ScriptLine → List ScriptLine
+lines_of caller lines = filter (λ line. line.caller == caller) lines
+
+-- the history that rows show: the calls of those that have a place
+abbrev pub event_of : Row → Event
+event_of row = record { actor = row.caller; call = row.call }
+
+abbrev pub history_of : List Row → History
+history_of rows = map event_of (filter (λ row. is_some row.place) rows)
+
+-- the places rise from a first one without a gap
+abbrev pub HavePlaces : ℕ → List Row → Type 0
+HavePlaces first [] = Unit {0}
+HavePlaces first (row ∷ rows) = (row.place ≡ Some first) × HavePlaces (first + 1) rows
+
+-- so many rows with a place come first, and the row at a position has that position as its place; the rows without a place
+-- follow in the order of their callers, and each of them was stopped
+pub record IsInOrder (placed : ℕ) (rows : List Row) : Type 0 where
+  pub within : placed ≤ length rows
+  pub places : HavePlaces 0 (take placed rows)
+  pub stopped : All (λ row. (row.place ≡ None) × IsStopped row.answer) (drop placed rows)
+  pub by_caller : IsStrictlyIncreasing (map (λ (row : Row). row.caller) (drop placed rows))
+
+-- the rows that a line makes when it is done: one call is one row
+abbrev pub IsChain : Deed → List Row → Type 0
+IsChain (One call) rows = (row : Row) × (rows ≡ row ∷ []) × (row.call ≡ call) × ¬ (IsStopped row.answer)
+
+-- the rows that a line makes when its caller ends early in it: the stopped row, which may be missing
+abbrev pub IsCutShort : Deed → List Row → Type 0
+IsCutShort (One call) rows = (rows ≡ []) ⊎ ((row : Row) × (rows ≡ row ∷ []) × (row.call ≡ call) × IsStopped row.answer)
+
+-- the rows expand the lines, each line in its place
+abbrev pub Expand : List ScriptLine → List Row → Type 0
+Expand [] rows = rows ≡ []
+Expand (line ∷ lines) rows = (chain rest : List Row) × (rows ≡ chain ++ rest) × IsChain line.deed chain × Expand lines rest
+
+-- the rows expand a proper front of the lines, and end within the next line
+abbrev pub EndEarly : List ScriptLine → List Row → Type 0
+EndEarly [] rows = ⊥
+EndEarly (line ∷ lines) rows =
+    IsCutShort line.deed rows ⊎ ((chain rest : List Row) × (rows ≡ chain ++ rest) × IsChain line.deed chain × EndEarly lines rest)
+
+-- each row that has a place and was not stopped is answered with what the calls above it make of its key
+abbrev pub IsAnswered : History → Row → Type 0
+IsAnswered history row = (place : ℕ) → row.place ≡ Some place → ¬ (IsStopped row.answer) → Answered history place row.call row.answer
+
+-- rows are legal for scripts: one history, in which each caller's calls stand once and in the caller's order, and each is
+-- answered rightly at its place
+pub record IsLegal (rows : List Row) (script : List ScriptLine) : Type 0 where
+  pub order : (placed : ℕ) × IsInOrder placed rows
+  pub each_caller : (caller : ℕ) → Expand (lines_of caller script) (rows_of caller rows) ⊎ EndEarly (lines_of caller script) (rows_of caller rows)
+  pub answers : All (IsAnswered (history_of rows)) rows
+
+-- no caller ended early
+abbrev pub IsComplete : List Row → List ScriptLine → Type 0
+IsComplete rows script = (caller : ℕ) → Expand (lines_of caller script) (rows_of caller rows)

@@ -1,0 +1,7 @@
+pub mod Cells
+pub mod Legal
+pub mod Run
+pub mod Outcome
+pub mod ReportText
+pub mod Store
+pub mod Top

@@ -1,0 +1,31 @@
+-- What the map of the store holds.
+use Rattle.std.specs.Prelude.{◌≡◌, ℕ, List, if◌then◌else◌}
+use Rattle.spl_message.specs.declared.message.Message.{Message}
+use Rattle.spl_message.specs.Key.{same_key}
+use Rattle.spl_message.specs.declared.answer.Answer.{Answer}
+use Rattle.spl_message.specs.declared.answer.Answer.TheVariants.{Done}
+use Rattle.spl_message.specs.declared.call.Call.{Call}
+use Rattle.spl_message.specs.declared.call.Call.TheVariants.{Put, Look}
+use Rattle.spl_message.specs.Answer.{told_of}
+use Rattle.spl_message.specs.Cell.{Cell, act}
+
+-- a store holds a cell for each key
+abbrev pub Cells : Type 0
+Cells = List ℕ → Cell
+
+abbrev pub SameCells : Cells → Cells → Type 0
+SameCells before after = (key : List ℕ) → after key ≡ before key
+
+-- a message is put to a key, and no other key's cell changes
+abbrev pub PutsTo : Cells → Cells → List ℕ → Message → Type 0
+PutsTo before after key message = (other : List ℕ) → after other ≡ (if same_key key other then act other (before other) message else before other)
+
+-- a call puts what it puts
+abbrev pub Puts : Cells → Cells → Call → Type 0
+Puts before after (Put key message) = PutsTo before after key message
+Puts before after (Look key) = SameCells before after
+
+-- what a call answers over these cells
+abbrev pub AnsweredFrom : Cells → Call → Answer → Type 0
+AnsweredFrom cells (Put key message) answer = answer ≡ Done
+AnsweredFrom cells (Look key) answer = answer ≡ told_of (cells key)

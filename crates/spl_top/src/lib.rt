@@ -1,0 +1,17 @@
+//! The program as a function from words and an input to a report.
+//!
+//! `splinter` reads its words, then the input to its end, then the script, runs it and writes the report. Its clauses
+//! are what the shipped program promises.
+#![tactic(auto)]
+
+mod ending;
+mod report;
+mod run;
+mod store;
+mod top;
+
+pub use report::{Row, one_report, write_report};
+pub use top::splinter;
+
+#[cfg(test)]
+mod tests;

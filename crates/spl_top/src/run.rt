@@ -1,0 +1,79 @@
+//! The run of a script by one caller.
+ghost use Rattle.std.specs.Prelude.{◌≡◌, ◌<◌, ◌^◌, length, vec_len, false, All, OnOk, OnErr};
+ghost use Rattle.spl_top.specs.Cells.{cells_of};
+ghost use Rattle.spl_top.specs.Legal.{IsLegal, IsComplete};
+ghost use Rattle.spl_top.specs.Run.{Logs, Stops};
+
+use crate::report::Row;
+use crate::store::Store;
+use spl_message::{Answer, Cause, NoMemory};
+use spl_script::{Deed, ScriptLine, Scripts};
+use std::alloc::Global;
+
+/// The rows of a run, and whether the caller ended early.
+#[derive(Drop)]
+pub struct Ran {
+    pub rows: Vec<Row>,
+    pub ended_early: bool,
+}
+
+/// Runs the script of caller 0 over a store of its own.
+pub fn run(alloc: Global, script: &Scripts) -> Ran
+    requires { All (λ line. line.caller < 1) script.now }
+    ensures legal { IsLegal result.rows.items script.now }
+    ensures complete { result.ended_early ≡ false → IsComplete result.rows.items script.now }
+{
+    let mut store = Store::new(alloc);
+    let mut rows = Vec::new(alloc);
+    let lines = script.lines();
+    for line in lines {
+        match make_line(&mut store, &mut rows, line) {
+            Ok(()) => (),
+            Err(NoMemory) => {
+                return Ran {
+                    rows,
+                    ended_early: true,
+                };
+            }
+        }
+    }
+    Ran {
+        rows,
+        ended_early: false,
+    }
+}
+
+/// Makes the call of a line, at the next place. The row has its room before the call is made, so no call that was made goes
+/// unreported.
+fn make_line(store: &mut Store, rows: &mut Vec<Row>, line: &ScriptLine) -> Result<(), NoMemory>
+    ensures ok { OnOk result (Logs rows.old.items rows.new.items (cells_of store.old) (cells_of store.new) line.now) }
+    ensures err { OnErr result (Stops rows.old.items rows.new.items line.now) }
+{
+    rows.reserve(1)?;
+    let Deed::One(call) = &line.deed;
+    let copy = call.copy()?;
+    let caller = line.caller;
+    match store.call(call) {
+        Ok(answer) => {
+            let place = Some(rows.len() as u64);
+            let row = Row {
+                place,
+                caller,
+                call: copy,
+                answer,
+            };
+            rows.push(row).unwrap();
+            Ok(())
+        }
+        Err(NoMemory) => {
+            let row = Row {
+                place: None,
+                caller,
+                call: copy,
+                answer: Answer::Stopped(Cause::Memory),
+            };
+            rows.push(row).unwrap();
+            Err(NoMemory)
+        }
+    }
+}
