@@ -1,0 +1,7 @@
+pub mod Fnv
+pub mod Slot
+pub mod Counts
+pub mod Table
+pub mod Filling
+pub mod Exponent
+pub mod Filter

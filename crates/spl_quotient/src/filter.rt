@@ -1,0 +1,120 @@
+ghost use Rattle.std.specs.Prelude.{◌≡◌, ℕ, ◌+◌, ◌*◌, ◌/◌, ◌^◌, ◌≤◌, ◌<◌, ◌↔◌, length, map, All, Contains, IsTrue, IfOk, slice_index};
+ghost use Rattle.std.specs.List.Sorted.{IsStrictlyIncreasing};
+ghost use Rattle.spl_quotient.specs.Fnv.{fingerprint_of};
+ghost use Rattle.spl_quotient.specs.Exponent.{IsExponent};
+ghost use Rattle.spl_quotient.specs.Table.{IsLaid, prints_in};
+
+use crate::find::has;
+use crate::hash::fingerprint;
+use crate::lay::lay;
+use crate::prints::{farthest_ahead, prints_of};
+use crate::table::Table;
+use spl_message::{Key, NoMemory};
+use std::alloc::Global;
+use std::marker::Model;
+
+/// A quotient filter: which fingerprints the keys that it was built of have.
+///
+/// It takes two bytes a slot, and two to four slots a key, at least 64 in all. It is never wrong about a key of the
+/// build; of other keys it admits those that share a fingerprint with one, at most about one in 8,192.
+#[derive(Debug, Drop)]
+pub struct Filter {
+    table: Table,
+    q: u32,
+}
+
+impl Model for Filter {
+    ghost use Rattle.spl_quotient.specs.Filter.{Filter as Shown, shown, IsSound};
+
+    ghost Value = { Shown };
+
+    ghost view = { shown };
+
+    ghost invariant = { IsSound };
+}
+
+impl Filter {
+    /// The filter of these keys, which may come in any order, and more than once.
+    pub fn build(alloc: Global, keys: &[Key]) -> Result<Filter, NoMemory>
+        requires { length keys.now ≤ 2 ^ 51 }
+        ensures exponent { IfOk result (λ filter. IsExponent (length keys.now) filter.q) }
+        ensures prints { IfOk result (λ filter. (print : ℕ)
+            → Contains filter.prints print ↔ Contains (map (fingerprint_of filter.q) keys.now) print) }
+
+        // So no key of the build is missed.
+        ensures keys { IfOk result (λ filter. All (λ key. Contains filter.prints (fingerprint_of filter.q key)) keys.now) }
+    {
+        let q = exponent_of(keys.len());
+        let prints = prints_of(alloc, keys, q)?;
+        let table = table_of(alloc, prints.as_slice(), q)?;
+        Ok(Filter { table, q })
+    }
+
+    /// The exponent: the filter has 2^q slots, and its fingerprints have q + 12 bits.
+    pub fn q(&self) -> u32
+        ensures value { result ≡ self.now.q }
+        ensures most { result ≤ 52 }
+    {
+        self.q
+    }
+
+    /// Whether some key of the build has the fingerprint of the key.
+    pub fn admits(&self, key: &Key) -> bool
+        ensures { IsTrue result ↔ Contains self.now.prints (fingerprint_of self.now.q key.now) }
+    {
+        let print = fingerprint(key, self.q);
+        let home = self.table.position_of((print / 4096) as usize);
+        has(&self.table, home, (print % 4096) as u16)
+    }
+}
+
+/// The exponent of a filter over so many keys.
+fn exponent_of(count: usize) -> u32
+    requires { count ≤ 2 ^ 51 }
+    ensures exponent { IsExponent count result }
+    ensures most { result ≤ 52 }
+{
+    let mut q = 6;
+    while slot_count(q) < 2 * count {
+        q += 1;
+    }
+    q
+}
+
+/// How many slots a filter has.
+fn slot_count(q: u32) -> usize
+    requires { q ≤ 52 }
+    ensures { result ≡ 2 ^ q }
+{
+    1 << q
+}
+
+/// The quotient of the fingerprint at the place, if there are any.
+fn quotient_at(prints: &[u64], place: usize) -> usize
+    requires { 0 < length prints.now → place < length prints.now }
+    ensures some { 0 < length prints.now → result ≡ slice_index prints.now place / 2 ^ 12 }
+    ensures none { length prints.now ≡ 0 → result ≡ 0 }
+{
+    if prints.is_empty() {
+        0
+    } else {
+        (prints[place] / 4096) as usize
+    }
+}
+
+/// The table of these fingerprints.
+fn table_of(alloc: Global, prints: &[u64], q: u32) -> Result<Table, NoMemory>
+    requires most { q ≤ 52 }
+    requires sorted { IsStrictlyIncreasing prints.now }
+    requires bits { All (λ print. print < 2 ^ (q + 12)) prints.now }
+    requires count { length prints.now ≤ 2 ^ q }
+    ensures laid { IfOk result (λ table. IsLaid table.slots) }
+    ensures len { IfOk result (λ table. length table.slots ≡ 2 ^ q) }
+    ensures prints { IfOk result (λ table. (print : ℕ)
+        → Contains (prints_in q table) print ↔ Contains prints.now print) }
+{
+    let first = farthest_ahead(prints);
+    let mut table = Table::new(alloc, slot_count(q), quotient_at(prints, first))?;
+    lay(&mut table, prints, first);
+    Ok(table)
+}

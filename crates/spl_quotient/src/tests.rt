@@ -1,0 +1,50 @@
+use crate::{Filter, fingerprint, fnv};
+use spl_message::Key;
+use std::process::Abort;
+
+fn key(rt: &impl Abort, bytes: &[u8]) -> Key {
+    Key::read(bytes).expect(rt, "a key")
+}
+
+#[test]
+fn known_texts_have_their_hashes(rt: HostRuntime) {
+    assert_eq!(rt; fnv(b""), 0xcbf29ce484222325);
+    assert_eq!(rt; fnv(b"a"), 0xaf63dc4c8601ec8c);
+    assert_eq!(rt; fnv(b"foobar"), 0x85944171f73967e8);
+    let print = fingerprint(&key(&rt, b"a"), 6);
+    assert_eq!(rt; print, 179_599);
+    assert_eq!(rt; (print / 4096, print % 4096), (43, 3471));
+}
+
+#[test]
+fn a_filter_admits_its_key_and_what_shares_its_fingerprint(rt: HostRuntime) {
+    let filter = Filter::build(rt.alloc(), &[key(&rt, b"a")]).expect(&rt, "memory");
+    assert_eq!(rt; filter.q(), 6);
+    assert!(rt; filter.admits(&key(&rt, b"a")));
+    assert!(rt; filter.admits(&key(&rt, b"b")));
+    assert!(rt; !filter.admits(&key(&rt, b"foobar")));
+}
+
+#[test]
+fn a_filter_over_no_keys_admits_nothing(rt: HostRuntime) {
+    let filter = Filter::build(rt.alloc(), &[]).expect(&rt, "memory");
+    assert_eq!(rt; filter.q(), 6);
+    assert!(rt; !filter.admits(&key(&rt, b"a")));
+}
+
+#[test]
+fn the_exponent_grows_with_the_keys(rt: HostRuntime) {
+    for (count, q) in [(32u16, 6), (33, 7), (1024, 11)] {
+        let mut keys = Vec::new(rt.alloc());
+        for number in 0..count {
+            keys.push(key(&rt, &number.to_be_bytes()))
+                .expect(&rt, "memory");
+        }
+        assert!(rt; keys.len() <= 1024);
+        let filter = Filter::build(rt.alloc(), keys.as_slice()).expect(&rt, "memory");
+        assert_eq!(rt; filter.q(), q);
+        for key in &keys {
+            assert!(rt; filter.admits(key));
+        }
+    }
+}
