@@ -1,3 +1,4 @@
+pub mod Deed
 pub mod Field
 pub mod Line
 pub mod Reading

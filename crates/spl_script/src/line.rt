@@ -1,5 +1,6 @@
 ghost use Rattle.std.specs.Prelude.{◌≡◌, ◌<◌, IfOk};
 ghost use Rattle.std.specs.Option.{option_copied, option_map};
+ghost use Rattle.spl_script.specs.Deed.{IsDeed};
 ghost use Rattle.spl_script.specs.Line.{deed_of, put_of, delete_of, look_of, line_of, fields_in, is_later, only, both};
 ghost use Rattle.spl_script.specs.Reading.{Gives};
 
@@ -37,7 +38,8 @@ fn two_fields(rest: Option<&[u8]>) -> Option<(&[u8], &[u8])>
 
 /// The put of the fields behind the verb.
 fn read_put(alloc: Global, rest: Option<&[u8]>) -> Result<Deed, LineFault>
-    ensures { Gives result (put_of (fields_in rest.entry)) }
+    ensures value { Gives result (put_of (fields_in rest.entry)) }
+    ensures deed { IfOk result IsDeed }
 {
     let Some((key, value)) = two_fields(rest) else {
         return Err(LineFault::Why(LineWhy::Fields));
@@ -49,7 +51,8 @@ fn read_put(alloc: Global, rest: Option<&[u8]>) -> Result<Deed, LineFault>
 
 /// The delete of the field behind the verb.
 fn read_delete(rest: Option<&[u8]>) -> Result<Deed, LineFault>
-    ensures { Gives result (delete_of (fields_in rest.entry)) }
+    ensures value { Gives result (delete_of (fields_in rest.entry)) }
+    ensures deed { IfOk result IsDeed }
 {
     let Some(key) = one_field(rest) else {
         return Err(LineFault::Why(LineWhy::Fields));
@@ -60,7 +63,8 @@ fn read_delete(rest: Option<&[u8]>) -> Result<Deed, LineFault>
 
 /// The lookup of the field behind the verb.
 fn read_look(rest: Option<&[u8]>) -> Result<Deed, LineFault>
-    ensures { Gives result (look_of (fields_in rest.entry)) }
+    ensures value { Gives result (look_of (fields_in rest.entry)) }
+    ensures deed { IfOk result IsDeed }
 {
     let Some(key) = one_field(rest) else {
         return Err(LineFault::Why(LineWhy::Fields));
@@ -71,7 +75,8 @@ fn read_look(rest: Option<&[u8]>) -> Result<Deed, LineFault>
 
 /// What the verb and the fields behind it ask for.
 fn read_deed(alloc: Global, verb: &[u8], rest: Option<&[u8]>) -> Result<Deed, LineFault>
-    ensures { Gives result (deed_of verb.now (fields_in rest.entry)) }
+    ensures value { Gives result (deed_of verb.now (fields_in rest.entry)) }
+    ensures deed { IfOk result IsDeed }
 {
     match verb {
         b"put" => read_put(alloc, rest),
@@ -93,6 +98,7 @@ pub fn is_of_later_form(text: &[u8]) -> bool
 pub fn read_line(alloc: Global, text: &[u8], callers: u32) -> Result<ScriptLine, LineFault>
     ensures value { Gives result (line_of callers text.now) }
     ensures below { IfOk result (λ line. line.caller < callers) }
+    ensures deed { IfOk result (λ line. IsDeed line.deed) }
 {
     if is_of_later_form(text) {
         return Err(LineFault::Why(LineWhy::Later));

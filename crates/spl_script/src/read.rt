@@ -1,4 +1,5 @@
 ghost use Rattle.std.specs.Prelude.{◌≡◌, ◌<◌, ◌≤◌, length, take, All, IfOk, OnOk};
+ghost use Rattle.spl_script.specs.Deed.{IsDeed};
 ghost use Rattle.spl_script.specs.Script.{script_text, is_too_far, numbered, last_of, GivesLine, GivesScript};
 
 use crate::fault::{LineFault, LineWhy, ScriptFault};
@@ -70,6 +71,7 @@ fn numbered_line(
 ) -> Result<ScriptLine, ScriptFault>
     ensures value { GivesLine result (numbered callers number end text.now) }
     ensures below { IfOk result (λ line. line.caller < callers) }
+    ensures deed { IfOk result (λ line. IsDeed line.deed) }
     ensures near { OnOk result ((number ≤ 500000) × (end ≤ 16777216)) }
 {
     if is_too_far_down(number, end) {
@@ -92,7 +94,8 @@ fn last_line(
     number: u64,
     end: usize,
 ) -> Result<Scripts, ScriptFault>
-    requires { length lines.items ≤ 500000 }
+    requires few { length lines.items ≤ 500000 }
+    requires deeds { All (λ line. IsDeed line.deed) lines.items }
     ensures value { GivesScript result (last_of lines.items number end last.now) }
     ensures none { OnOk result (length last.now ≡ 0) }
 {

@@ -1,4 +1,4 @@
-ghost use Rattle.std.specs.Prelude.{◌≡◌, ◌≤◌, length};
+ghost use Rattle.std.specs.Prelude.{◌≡◌, ◌≤◌, length, All};
 
 use spl_message::Call;
 use std::marker::Model;
@@ -25,20 +25,24 @@ pub struct Scripts {
 }
 
 impl Model for Scripts {
-    ghost use Rattle.std.specs.Prelude.{◌≤◌, List, length};
+    ghost use Rattle.std.specs.Prelude.{◌≤◌, List, length, All};
     ghost use Rattle.spl_script.specs.declared.script.ScriptLine.{ScriptLine};
+    ghost use Rattle.spl_script.specs.Deed.{IsDeed};
 
     ghost Value = { List ScriptLine };
 
     ghost view = { λ s. s.lines.items };
 
-    ghost invariant = { λ s. length s.lines.items ≤ 500000 };
+    ghost invariant = { λ s. (length s.lines.items ≤ 500000) × All (λ line. IsDeed line.deed) s.lines.items };
 }
 
 impl Scripts {
+    ghost use Rattle.spl_script.specs.Deed.{IsDeed};
+
     /// The script of these lines, which takes no memory.
     pub fn of(lines: Vec<ScriptLine>) -> Scripts
-        requires { length lines.items ≤ 500000 }
+        requires few { length lines.items ≤ 500000 }
+        requires deeds { All (λ line. IsDeed line.deed) lines.items }
         ensures { result ≡ lines.items }
     {
         Scripts { lines }
@@ -48,6 +52,7 @@ impl Scripts {
     pub fn lines(&self) -> &[ScriptLine]
         ensures value { result.now ≡ self.now }
         ensures small { length self.now ≤ 500000 }
+        ensures deeds { All (λ line. IsDeed line.deed) self.now }
     {
         self.lines.as_slice()
     }

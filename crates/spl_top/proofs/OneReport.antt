@@ -3,12 +3,12 @@ use Rattle.std.proofs.Common.{◌≡◌, ◌≢◌, ℕ, ◌+◌, ◌/◌, ◌%�
 use Rattle.std.proofs.lemmas.Fmt.{decimal_by_steps, decimal_injective, decimal_nonempty}
 use Rattle.std.specs.List.{AllByRecursion}
 use Rattle.spl_message.specs.declared.answer.Answer.{Answer}
-use Rattle.spl_message.specs.declared.answer.Answer.TheVariants.{Done, Missing, Value, Stopped}
+use Rattle.spl_message.specs.declared.answer.Answer.TheVariants.{Done, Missing, Value, Pairs, Stopped}
 use Rattle.spl_message.specs.declared.answer.Cause.{Cause}
 use Rattle.spl_message.specs.declared.answer.Cause.TheVariants.{Fault, Damaged, Full, Nodes, Spent, Memory}
 use Rattle.spl_message.specs.declared.call.Call.{Call}
-use Rattle.spl_message.specs.declared.call.Call.TheVariants.{Put, Look}
-use Rattle.spl_message.specs.declared.message.Message.TheVariants.{Insert, Delete}
+use Rattle.spl_message.specs.declared.call.Call.TheVariants.{Put, Look, Piece}
+use Rattle.spl_message.specs.declared.message.Message.TheVariants.{Insert, Delete, Update}
 use Rattle.spl_top.specs.declared.report.Row.{Row}
 use Rattle.spl_top.specs.ReportText.{text_of, place_text, call_text, cause_text, answer_text, row_text, report_text, AreBytes, HasCallBytes, HasAnswerBytes, IsInRange}
 use Rattle.spl_top.proofs.Lists.{all_push, all_append}
@@ -70,6 +70,7 @@ unfolding answer_of cause_of
 answer_back Done h = refl
 answer_back Missing h = refl
 answer_back (Value value) h = value_back (text_of value) ∙ ap Value (text_back value h)
+answer_back (Pairs end pairs) h = absurd h
 answer_back (Stopped Fault) h = refl
 answer_back (Stopped Damaged) h = refl
 answer_back (Stopped Full) h = refl
@@ -80,30 +81,35 @@ answer_back (Stopped Memory) h = refl
 answer_same : (a b : Answer) → HasAnswerBytes a → HasAnswerBytes b → answer_text a ≡ answer_text b → a ≡ b
 answer_same a b ha hb e = sym (answer_back a ha) ∙ ap answer_of e ∙ answer_back b hb
 
-answer_above : (answer : Answer) → Above (answer_text answer)
-answer_above Done = above_by_test (codes "ok") refl
-answer_above Missing = above_by_test (codes "none") refl
-answer_above (Value value) = (lit< tt, text_above value)
-answer_above (Stopped Fault) = above_by_test (codes "fault") refl
-answer_above (Stopped Damaged) = above_by_test (codes "damaged") refl
-answer_above (Stopped Full) = above_by_test (codes "full") refl
-answer_above (Stopped Nodes) = above_by_test (codes "nodes") refl
-answer_above (Stopped Spent) = above_by_test (codes "spent") refl
-answer_above (Stopped Memory) = above_by_test (codes "memory") refl
+answer_above : (answer : Answer) → HasAnswerBytes answer → Above (answer_text answer)
+answer_above Done h = above_by_test (codes "ok") refl
+answer_above Missing h = above_by_test (codes "none") refl
+answer_above (Value value) h = (lit< tt, text_above value)
+answer_above (Pairs end pairs) h = absurd h
+answer_above (Stopped Fault) h = above_by_test (codes "fault") refl
+answer_above (Stopped Damaged) h = above_by_test (codes "damaged") refl
+answer_above (Stopped Full) h = above_by_test (codes "full") refl
+answer_above (Stopped Nodes) h = above_by_test (codes "nodes") refl
+answer_above (Stopped Spent) h = above_by_test (codes "spent") refl
+answer_above (Stopped Memory) h = above_by_test (codes "memory") refl
 
 -- ---- calls
 
 -- a call's text with what follows it, from the left
 spelled : Call → List ℕ → List ℕ
 spelled (Put key (Insert value)) rest = 112 ∷ 117 ∷ 116 ∷ 32 ∷ (text_of key ++ 32 ∷ (61 ∷ (text_of value ++ rest)))
+spelled (Put key (Update operand)) rest = 117 ∷ 112 ∷ 100 ∷ 32 ∷ (text_of key ++ 32 ∷ (61 ∷ (text_of operand ++ rest)))
 spelled (Put key Delete) rest = 100 ∷ 101 ∷ 108 ∷ 32 ∷ (text_of key ++ rest)
 spelled (Look key) rest = 103 ∷ 101 ∷ 116 ∷ 32 ∷ (text_of key ++ rest)
+spelled (Piece span) rest = call_text (Piece span) ++ rest
 
 call_spelled : (call : Call) (rest : List ℕ) → call_text call ++ rest ≡ spelled call rest
 unfolding spelled
 call_spelled (Put key (Insert value)) rest = simp append_assoc
+call_spelled (Put key (Update operand)) rest = simp append_assoc
 call_spelled (Put key Delete) rest = simp append_assoc
 call_spelled (Look key) rest = simp append_assoc
+call_spelled (Piece span) rest = refl
 
 same_first : (m n : ℕ) (xs ys : List ℕ) → m ∷ xs ≡ n ∷ ys → m ≡ n
 same_first m n xs ys e = cc
@@ -119,22 +125,42 @@ call_cut (Put k (Insert v)) (Put l (Insert w)) x y ha hb e =
     let key : k ≡ l = text_of-injective k l ha.0 hb.0 after.0 in
     let value : v ≡ w = text_of-injective v w ha.1 hb.1 end.0 in
     ((λ i. Put (key i) (Insert (value i))), end.1)
+call_cut (Put k (Insert v)) (Put l (Update w)) x y ha hb e = absurd (omega (arith, same_first 112 117 _ _ e))
+call_cut (Put k (Insert v)) (Put l Delete) x y ha hb e = absurd (omega (arith, same_first 112 100 _ _ e))
+call_cut (Put k (Insert v)) (Look l) x y ha hb e = absurd (omega (arith, same_first 112 103 _ _ e))
+call_cut (Put k (Insert v)) (Piece span) x y ha hb e = absurd hb
+call_cut (Put k (Update v)) (Put l (Insert w)) x y ha hb e = absurd (omega (arith, same_first 117 112 _ _ e))
+call_cut (Put k (Update v)) (Put l (Update w)) x y ha hb e =
+    let keys : text_of k ++ 32 ∷ (61 ∷ (text_of v ++ 32 ∷ x)) ≡ text_of l ++ 32 ∷ (61 ∷ (text_of w ++ 32 ∷ y)) = cc in
+    let after = cut 32 (text_of k) (text_of l) _ _ (omega arith) (text_above k) (text_above l) keys in
+    let behind : 61 ∷ (text_of v ++ 32 ∷ x) ≡ 61 ∷ (text_of w ++ 32 ∷ y) = after.1 in
+    let values : text_of v ++ 32 ∷ x ≡ text_of w ++ 32 ∷ y = cc in
+    let end = cut 32 (text_of v) (text_of w) x y (omega arith) (text_above v) (text_above w) values in
+    let key : k ≡ l = text_of-injective k l ha.0 hb.0 after.0 in
+    let value : v ≡ w = text_of-injective v w ha.1 hb.1 end.0 in
+    ((λ i. Put (key i) (Update (value i))), end.1)
+call_cut (Put k (Update v)) (Put l Delete) x y ha hb e = absurd (omega (arith, same_first 117 100 _ _ e))
+call_cut (Put k (Update v)) (Look l) x y ha hb e = absurd (omega (arith, same_first 117 103 _ _ e))
+call_cut (Put k (Update v)) (Piece span) x y ha hb e = absurd hb
+call_cut (Put k Delete) (Put l (Insert w)) x y ha hb e = absurd (omega (arith, same_first 100 112 _ _ e))
+call_cut (Put k Delete) (Put l (Update w)) x y ha hb e = absurd (omega (arith, same_first 100 117 _ _ e))
 call_cut (Put k Delete) (Put l Delete) x y ha hb e =
     let keys : text_of k ++ 32 ∷ x ≡ text_of l ++ 32 ∷ y = cc in
     let end = cut 32 (text_of k) (text_of l) x y (omega arith) (text_above k) (text_above l) keys in
     let key : k ≡ l = text_of-injective k l ha hb end.0 in
     ((λ i. Put (key i) Delete), end.1)
+call_cut (Put k Delete) (Look l) x y ha hb e = absurd (omega (arith, same_first 100 103 _ _ e))
+call_cut (Put k Delete) (Piece span) x y ha hb e = absurd hb
+call_cut (Look k) (Put l (Insert w)) x y ha hb e = absurd (omega (arith, same_first 103 112 _ _ e))
+call_cut (Look k) (Put l (Update w)) x y ha hb e = absurd (omega (arith, same_first 103 117 _ _ e))
+call_cut (Look k) (Put l Delete) x y ha hb e = absurd (omega (arith, same_first 103 100 _ _ e))
 call_cut (Look k) (Look l) x y ha hb e =
     let keys : text_of k ++ 32 ∷ x ≡ text_of l ++ 32 ∷ y = cc in
     let end = cut 32 (text_of k) (text_of l) x y (omega arith) (text_above k) (text_above l) keys in
     let key : k ≡ l = text_of-injective k l ha hb end.0 in
     ((λ i. Look (key i)), end.1)
-call_cut (Put k (Insert v)) (Put l Delete) x y ha hb e = absurd (omega (arith, same_first 112 100 _ _ e))
-call_cut (Put k (Insert v)) (Look l) x y ha hb e = absurd (omega (arith, same_first 112 103 _ _ e))
-call_cut (Put k Delete) (Put l (Insert w)) x y ha hb e = absurd (omega (arith, same_first 100 112 _ _ e))
-call_cut (Put k Delete) (Look l) x y ha hb e = absurd (omega (arith, same_first 100 103 _ _ e))
-call_cut (Look k) (Put l (Insert w)) x y ha hb e = absurd (omega (arith, same_first 103 112 _ _ e))
-call_cut (Look k) (Put l Delete) x y ha hb e = absurd (omega (arith, same_first 103 100 _ _ e))
+call_cut (Look k) (Piece span) x y ha hb e = absurd hb
+call_cut (Piece span) other x y ha hb e = absurd ha
 
 -- ---- rows
 
@@ -153,7 +179,7 @@ row_cut a b x y ha hb e =
     let places = cut 32 (place_text a.place) (place_text b.place) _ _ (omega arith) (place_above a.place ha.place) (place_above b.place hb.place) whole in
     let callers = cut 32 (decimal a.caller) (decimal b.caller) _ _ (omega arith) (decimal_above a.caller small_a) (decimal_above b.caller small_b) places.1 in
     let calls = call_cut a.call b.call _ _ ha.call hb.call callers.1 in
-    let answers = cut 10 (answer_text a.answer) (answer_text b.answer) x y (omega arith) (answer_above a.answer) (answer_above b.answer) calls.1 in
+    let answers = cut 10 (answer_text a.answer) (answer_text b.answer) x y (omega arith) (answer_above a.answer ha.answer) (answer_above b.answer hb.answer) calls.1 in
     let place : a.place ≡ b.place = place_same a.place b.place ha.place hb.place places.0 in
     let caller : a.caller ≡ b.caller = decimal_injective a.caller b.caller small_a small_b callers.0 in
     let answer : a.answer ≡ b.answer = answer_same a.answer b.answer ha.answer hb.answer answers.0 in

@@ -9,10 +9,12 @@ use Rattle.std.proofs.lemmas.Grind.{flat_map-append}
 use Rattle.spl_message.specs.declared.answer.Answer.{Answer}
 use Rattle.spl_message.specs.declared.answer.Answer.TheVariants.{Done, Missing, Value}
 use Rattle.spl_message.specs.declared.call.Call.{Call}
-use Rattle.spl_message.specs.declared.call.Call.TheVariants.{Put, Look}
+use Rattle.spl_message.specs.declared.call.Call.TheVariants.{Put, Look, Piece}
 use Rattle.spl_message.specs.declared.message.Message.{Message}
-use Rattle.spl_message.specs.Answer.{Answered, IsStopped, told_of}
-use Rattle.spl_message.specs.Cell.{Cell, act, act_all}
+use Rattle.spl_message.specs.Answer.{Answered, IsPieceOf, IsStopped, told_of}
+use Rattle.spl_message.specs.Cell.{Cell}
+use Rattle.spl_message.specs.Message.{act, act_all}
+use Rattle.spl_message.specs.Rule.{newest}
 use Rattle.spl_message.specs.History.{Event, History, messages_to, cell_at}
 use Rattle.spl_message.specs.Key.{same_key}
 use Rattle.spl_script.specs.declared.script.Deed.{Deed}
@@ -31,7 +33,7 @@ events rows = map event_of rows
 -- each row from a place on is answered by the history
 abbrev pub AnsweredOn : History → ℕ → List Row → Type 0
 AnsweredOn history place [] = Unit {0}
-AnsweredOn history place (row ∷ rows) = Answered history place row.call row.answer × AnsweredOn history (place + 1) rows
+AnsweredOn history place (row ∷ rows) = Answered newest history place row.call row.answer × AnsweredOn history (place + 1) rows
 
 -- so far: the lines that are done made these rows, and the cells are what the rows' calls make
 pub record Ran (done : List ScriptLine) (rows : List Row) (cells : Cells) : Type 0 where
@@ -39,7 +41,7 @@ pub record Ran (done : List ScriptLine) (rows : List Row) (cells : Cells) : Type
   pub callers : AllByRecursion (λ (row : Row). row.caller ≡ 0) rows
   pub expands : Expand done rows
   pub answers : AnsweredOn (events rows) 0 rows
-  pub are : (key : List ℕ) → cells key ≡ cell_at (events rows) (length rows) key
+  pub are : (key : List ℕ) → cells key ≡ cell_at newest (events rows) (length rows) key
 
 -- ---- one row more
 
@@ -51,53 +53,58 @@ expand_push : (done : List ScriptLine) (rows : List Row) (line : ScriptLine) (ch
 expand_push [] rows line chain e c = (chain, [], ap (λ r. r ++ chain) e ∙ sym (append-nil chain), c, refl)
 expand_push (l ∷ ls) rows line chain e c = (e.0, e.1 ++ chain, ap (λ r. r ++ chain) e.2 ∙ append_assoc e.0 e.1 chain, e.3, expand_push ls e.1 line chain e.4 c)
 
-cell_kept : (history : History) (event : Event) (place : ℕ) (key : List ℕ) → place ≤ length history → cell_at (history ++ event ∷ []) place key ≡ cell_at history place key
+cell_kept : (history : History) (event : Event) (place : ℕ) (key : List ℕ) → place ≤ length history → cell_at newest (history ++ event ∷ []) place key ≡ cell_at newest history place key
 cell_kept history event place key within =
-    ap (λ h. act_all key None (flat_map (λ (e : Event). messages_to key e.call) h)) (take-append-le place history (event ∷ []) within)
+    ap (λ h. act_all newest key None (flat_map (λ (e : Event). messages_to key e.call) h)) (take-append-le place history (event ∷ []) within)
 
-answered_kept : (history : History) (event : Event) (place : ℕ) (call : Call) (answer : Answer) → place ≤ length history → Answered history place call answer → Answered (history ++ event ∷ []) place call answer
+answered_kept : (history : History) (event : Event) (place : ℕ) (call : Call) (answer : Answer) → place ≤ length history → Answered newest history place call answer → Answered newest (history ++ event ∷ []) place call answer
 answered_kept history event place (Put key message) answer within a = a
 answered_kept history event place (Look key) answer within a = a ∙ ap told_of (sym (cell_kept history event place key within))
+answered_kept history event place (Piece span) answer within a =
+    let cells : cell_at newest history place ≡ cell_at newest (history ++ event ∷ []) place = λ i key. sym (cell_kept history event place key within) i in
+    subst (λ c. IsPieceOf c span answer) cells a
 
 answers_kept : (history : History) (event : Event) (place : ℕ) (rows : List Row) → place + length rows ≤ length history → AnsweredOn history place rows → AnsweredOn (history ++ event ∷ []) place rows
 answers_kept history event place [] within a = tt
 answers_kept history event place (row ∷ rows) within a =
     (answered_kept history event place row.call row.answer (omega arith) a.0, answers_kept history event (place + 1) rows (omega arith) a.1)
 
-answers_push : (history : History) (place : ℕ) (rows : List Row) (row : Row) → AnsweredOn history place rows → Answered history (place + length rows) row.call row.answer → AnsweredOn history place (rows ++ row ∷ [])
-answers_push history place [] row a h = let zero : place + 0 ≡ place = omega arith in (subst (λ n. Answered history n row.call row.answer) zero h, tt)
+answers_push : (history : History) (place : ℕ) (rows : List Row) (row : Row) → AnsweredOn history place rows → Answered newest history (place + length rows) row.call row.answer → AnsweredOn history place (rows ++ row ∷ [])
+answers_push history place [] row a h = let zero : place + 0 ≡ place = omega arith in (subst (λ n. Answered newest history n row.call row.answer) zero h, tt)
 answers_push history place (x ∷ xs) row a h =
     let shift : place + length (x ∷ xs) ≡ place + 1 + length xs = omega arith in
-    (a.0, answers_push history (place + 1) xs row a.1 (subst (λ n. Answered history n row.call row.answer) shift h))
+    (a.0, answers_push history (place + 1) xs row a.1 (subst (λ n. Answered newest history n row.call row.answer) shift h))
 
-act_chosen : (key : List ℕ) (cell : Cell) (message : Message) (b : Bool) → act_all key cell (cond b (message ∷ []) []) ≡ cond b (act key cell message) cell
+act_chosen : (key : List ℕ) (cell : Cell) (message : Message) (b : Bool) → act_all newest key cell (cond b (message ∷ []) []) ≡ cond b (act newest key cell message) cell
 act_chosen key cell message true = refl
 act_chosen key cell message false = refl
 
 -- the cell behind the last call is what that call's messages make of the cell before it
-cell_more : (history : History) (event : Event) (key : List ℕ) → cell_at (history ++ event ∷ []) (length history + 1) key ≡ act_all key (cell_at history (length history) key) (messages_to key event.call)
+cell_more : (history : History) (event : Event) (key : List ℕ) → cell_at newest (history ++ event ∷ []) (length history + 1) key ≡ act_all newest key (cell_at newest history (length history) key) (messages_to key event.call)
 cell_more history event key =
     let messages : Event → List Message = λ e. messages_to key e.call in
     let count : length (history ++ event ∷ []) ≡ length history + 1 = length-append history (event ∷ []) in
-    ap (λ h. act_all key None (flat_map messages h)) (take_all (length history + 1) (history ++ event ∷ []) (omega arith))
-    ∙ ap (act_all key None) (flat_map-append messages history (event ∷ []))
-    ∙ fold-append (act key) None (flat_map messages history) (flat_map messages (event ∷ []))
-    ∙ ap (λ h. act_all key (act_all key None (flat_map messages h)) (flat_map messages (event ∷ []))) (sym (take_all (length history) history (omega arith)))
-    ∙ ap (act_all key (cell_at history (length history) key)) (append-nil (messages_to key event.call))
+    ap (λ h. act_all newest key None (flat_map messages h)) (take_all (length history + 1) (history ++ event ∷ []) (omega arith))
+    ∙ ap (act_all newest key None) (flat_map-append messages history (event ∷ []))
+    ∙ fold-append (act newest key) None (flat_map messages history) (flat_map messages (event ∷ []))
+    ∙ ap (λ h. act_all newest key (act_all newest key None (flat_map messages h)) (flat_map messages (event ∷ []))) (sym (take_all (length history) history (omega arith)))
+    ∙ ap (act_all newest key (cell_at newest history (length history) key)) (append-nil (messages_to key event.call))
 
 cells_more : (history : History) (event : Event) (before after : Cells) (key : List ℕ) →
-    ((k : List ℕ) → before k ≡ cell_at history (length history) k) → Puts before after event.call → after key ≡ cell_at (history ++ event ∷ []) (length history + 1) key
+    ((k : List ℕ) → before k ≡ cell_at newest history (length history) k) → Puts before after event.call → after key ≡ cell_at newest (history ++ event ∷ []) (length history + 1) key
 cells_more history event before after key are puts = by event.call puts ∙ sym (cell_more history event key)
   where
-    by : (call : Call) → Puts before after call → after key ≡ act_all key (cell_at history (length history) key) (messages_to key call)
+    by : (call : Call) → Puts before after call → after key ≡ act_all newest key (cell_at newest history (length history) key) (messages_to key call)
     by (Put other message) p =
-        p key ∙ ap (λ cell. cond (same_key other key) (act key cell message) cell) (are key)
-        ∙ sym (act_chosen key (cell_at history (length history) key) message (same_key other key))
+        p key ∙ ap (λ cell. cond (same_key other key) (act newest key cell message) cell) (are key)
+        ∙ sym (act_chosen key (cell_at newest history (length history) key) message (same_key other key))
     by (Look other) p = p key ∙ are key
+    by (Piece span) p = absurd p
 
-answered_now : (history : History) (before : Cells) (call : Call) (answer : Answer) → ((k : List ℕ) → before k ≡ cell_at history (length history) k) → AnsweredFrom before call answer → Answered history (length history) call answer
+answered_now : (history : History) (before : Cells) (call : Call) (answer : Answer) → ((k : List ℕ) → before k ≡ cell_at newest history (length history) k) → AnsweredFrom before call answer → Answered newest history (length history) call answer
 answered_now history before (Put key message) answer are a = a
 answered_now history before (Look key) answer are a = a ∙ ap told_of (are key)
+answered_now history before (Piece span) answer are a = absurd a
 
 told_is_not_stopped : (cell : Cell) → ¬ (IsStopped (told_of cell))
 told_is_not_stopped None h = h
@@ -106,6 +113,7 @@ told_is_not_stopped (Some value) h = h
 not_stopped : (cells : Cells) (call : Call) (answer : Answer) → AnsweredFrom cells call answer → ¬ (IsStopped answer)
 not_stopped cells (Put key message) answer a = λ h. subst IsStopped a h
 not_stopped cells (Look key) answer a = λ h. told_is_not_stopped (cells key) (subst IsStopped a h)
+not_stopped cells (Piece span) answer a = absurd a
 
 -- nothing is done yet
 pub nothing_ran : (cells : Cells) → ((key : List ℕ) → cells key ≡ None) → Ran [] [] cells
@@ -118,11 +126,11 @@ one_ran done rows row before after line ran first place caller call answer puts 
     let h : History = events rows in
     let count : length h ≡ length rows = length-map rows event_of in
     let history : events (rows ++ row ∷ []) ≡ h ++ event_of row ∷ [] = map-append event_of rows (row ∷ []) in
-    let are : (k : List ℕ) → before k ≡ cell_at h (length h) k = λ k. ran.are k ∙ ap (λ n. cell_at h n k) (sym count) in
+    let are : (k : List ℕ) → before k ≡ cell_at newest h (length h) k = λ k. ran.are k ∙ ap (λ n. cell_at newest h n k) (sym count) in
     let from_zero : 0 + length rows ≡ length rows = omega arith in
-    let here : Answered h (0 + length rows) row.call row.answer =
-    subst (λ n. Answered h n row.call row.answer) (count ∙ sym from_zero) (answered_now h before row.call row.answer are answer) in
-    let kept : Answered (h ++ event_of row ∷ []) (0 + length rows) row.call row.answer =
+    let here : Answered newest h (0 + length rows) row.call row.answer =
+    subst (λ n. Answered newest h n row.call row.answer) (count ∙ sym from_zero) (answered_now h before row.call row.answer are answer) in
+    let kept : Answered newest (h ++ event_of row ∷ []) (0 + length rows) row.call row.answer =
     answered_kept h (event_of row) (0 + length rows) row.call row.answer (omega arith) here in
     let more : length (rows ++ row ∷ []) ≡ length h + 1 = length-append rows (row ∷ []) ∙ ap (λ n. n + 1) (sym count) in
     record {
@@ -130,7 +138,7 @@ one_ran done rows row before after line ran first place caller call answer puts 
       callers = all_push _ rows row ran.callers (caller ∙ first);
       expands = expand_push done rows line (row ∷ []) ran.expands (subst (λ d. IsChain d (row ∷ [])) (sym call) (row, refl, refl, not_stopped before row.call row.answer answer));
       answers = subst (λ g. AnsweredOn g 0 (rows ++ row ∷ [])) (sym history) (answers_push (h ++ event_of row ∷ []) 0 rows row (answers_kept h (event_of row) 0 rows (omega arith) ran.answers) kept);
-      are = λ key. cells_more h (event_of row) before after key are puts ∙ ap (λ n. cell_at (h ++ event_of row ∷ []) n key) (sym more) ∙ ap (λ g. cell_at g (length (rows ++ row ∷ [])) key) (sym history);
+      are = λ key. cells_more h (event_of row) before after key are puts ∙ ap (λ n. cell_at newest (h ++ event_of row ∷ []) n key) (sym more) ∙ ap (λ g. cell_at newest g (length (rows ++ row ∷ [])) key) (sym history);
     }
 
 -- a line is done
@@ -144,10 +152,10 @@ placed_all : (n : ℕ) (rows : List Row) → HavePlaces n rows → AllByRecursio
 placed_all n [] h = tt
 placed_all n (row ∷ rows) h = (ap is_some h.0, placed_all (n + 1) rows h.1)
 
-answered_all : (history : History) (n : ℕ) (rows : List Row) → HavePlaces n rows → AnsweredOn history n rows → AllByRecursion (IsAnswered history) rows
+answered_all : (history : History) (n : ℕ) (rows : List Row) → HavePlaces n rows → AnsweredOn history n rows → AllByRecursion (IsAnswered newest history) rows
 answered_all history n [] h a = tt
 answered_all history n (row ∷ rows) h a =
-    ((λ place is _. let both : Some n ≡ Some place = sym h.0 ∙ is in let same : n ≡ place = cc in subst (λ m. Answered history m row.call row.answer) same a.0), answered_all history (n + 1) rows h.1 a.1)
+    ((λ place is _. let both : Some n ≡ Some place = sym h.0 ∙ is in let same : n ≡ place = cc in subst (λ m. Answered newest history m row.call row.answer) same a.0), answered_all history (n + 1) rows h.1 a.1)
 
 -- what may stand behind the rows with places: the stopped row of the caller
 record IsTail (tail : List Row) : Type 0 where
@@ -166,7 +174,7 @@ per_caller R script rows lines_zero rows_zero none whole (suc c) =
     (subst (R []) (sym (filter_none _ rows (all_weaker _ _ rows (λ (row : Row) e. ap (λ n. eqb n (suc c)) e ∙ eqb-zero-suc c) rows_zero))) none)
 
 legal : (script done : List ScriptLine) (rows tail : List Row) (cells : Cells) → Ran done rows cells → IsTail tail → AllByRecursion (λ (line : ScriptLine). line.caller ≡ 0) script →
-    Expand script (rows ++ tail) ⊎ EndEarly script (rows ++ tail) → IsLegal (rows ++ tail) script
+    Expand script (rows ++ tail) ⊎ EndEarly script (rows ++ tail) → IsLegal newest (rows ++ tail) script
 legal script done rows tail cells ran t zeros expands =
     let placed : Row → Bool = λ row. is_some row.place in
     let stopped : Row → Type 0 = λ row. (row.place ≡ None) × IsStopped row.answer in
@@ -187,18 +195,18 @@ legal script done rows tail cells ran t zeros expands =
         },
       );
       each_caller = per_caller (λ ls rs. Expand ls rs ⊎ EndEarly ls rs) script (rows ++ tail) zeros (all_append _ rows tail ran.callers t.callers) (inl refl) expands;
-      answers = subst (λ h. All (IsAnswered h) (rows ++ tail)) (sym history) (All-from_recursion (IsAnswered (events rows)) (rows ++ tail)
-          (all_append (IsAnswered (events rows)) rows tail (answered_all (events rows) 0 rows ran.places ran.answers) (all_weaker stopped (IsAnswered (events rows)) tail (λ (row : Row) s place is not. absurd (not s.1)) t.stopped)));
+      answers = subst (λ h. All (IsAnswered newest h) (rows ++ tail)) (sym history) (All-from_recursion (IsAnswered newest (events rows)) (rows ++ tail)
+          (all_append (IsAnswered newest (events rows)) rows tail (answered_all (events rows) 0 rows ran.places ran.answers) (all_weaker stopped (IsAnswered newest (events rows)) tail (λ (row : Row) s place is not. absurd (not s.1)) t.stopped)));
     }
 
 nothing_behind : IsTail []
 nothing_behind = record { stopped = tt; callers = tt; one = omega arith }
 
 -- all lines are done
-pub all_ran : (script : List ScriptLine) (rows : List Row) (cells : Cells) → Ran script rows cells → AllByRecursion (λ (line : ScriptLine). line.caller ≡ 0) script → IsLegal rows script
+pub all_ran : (script : List ScriptLine) (rows : List Row) (cells : Cells) → Ran script rows cells → AllByRecursion (λ (line : ScriptLine). line.caller ≡ 0) script → IsLegal newest rows script
 all_ran script rows cells ran zeros =
     let none : rows ++ [] ≡ rows = append-nil rows in
-    subst (λ rs. IsLegal rs script) none (legal script script rows [] cells ran nothing_behind zeros (inl (subst (Expand script) (sym none) ran.expands)))
+    subst (λ rs. IsLegal newest rs script) none (legal script script rows [] cells ran nothing_behind zeros (inl (subst (Expand script) (sym none) ran.expands)))
 
 pub all_complete : (script : List ScriptLine) (rows : List Row) (cells : Cells) → Ran script rows cells → AllByRecursion (λ (line : ScriptLine). line.caller ≡ 0) script → IsComplete rows script
 all_complete script rows cells ran zeros = per_caller Expand script rows zeros ran.callers refl ran.expands
@@ -212,15 +220,15 @@ cut_before (One call) = inl refl
 
 -- the caller ended early in a line
 pub early_ran : (script done : List ScriptLine) (line : ScriptLine) (later : List ScriptLine) (old new : List Row) (cells : Cells) → Ran done old cells →
-    AllByRecursion (λ (line : ScriptLine). line.caller ≡ 0) script → script ≡ done ++ line ∷ later → line.caller ≡ 0 → Stops old new line → IsLegal new script
+    AllByRecursion (λ (line : ScriptLine). line.caller ≡ 0) script → script ≡ done ++ line ∷ later → line.caller ≡ 0 → Stops old new line → IsLegal newest new script
 early_ran script done line later old new cells ran zeros is first (inl same) =
-    subst (λ rs. IsLegal rs script) (append-nil old ∙ sym same) (legal script done old [] cells ran nothing_behind zeros
+    subst (λ rs. IsLegal newest rs script) (append-nil old ∙ sym same) (legal script done old [] cells ran nothing_behind zeros
     (inr (subst (λ s. EndEarly s (old ++ [])) (sym is) (end_early done old line later [] ran.expands (cut_before line.deed)))))
 early_ran script done line later old new cells ran zeros is first (inr s) =
     let row : Row = s.0 in
     let tail : IsTail (row ∷ []) = record { stopped = ((s.2, s.5), tt); callers = (s.3 ∙ first, tt); one = omega arith } in
     let cut : IsCutShort line.deed (row ∷ []) = subst (λ d. IsCutShort d (row ∷ [])) (sym s.4) (inr (row, refl, refl, s.5)) in
-    subst (λ rs. IsLegal rs script) (sym s.1) (legal script done old (row ∷ []) cells ran tail zeros
+    subst (λ rs. IsLegal newest rs script) (sym s.1) (legal script done old (row ∷ []) cells ran tail zeros
     (inr (subst (λ sc. EndEarly sc (old ++ row ∷ [])) (sym is) (end_early done old line later (row ∷ []) ran.expands cut))))
 
 -- ---- the script's lines

@@ -4,7 +4,7 @@ use Rattle.std.proofs.lemmas.Map.Text.{is_eq-slice_cmp}
 use Rattle.std.specs.Cmp.Lexicographic.{slice_cmp}
 use Rattle.std.specs.Ordering.{nat_cmp, is_eq}
 use Rattle.spl_message.specs.declared.message.Message.{Message}
-use Rattle.spl_message.specs.Cell.{Cell, act}
+use Rattle.spl_message.specs.Cell.{Cell}
 use Rattle.spl_message.specs.Key.{same_key}
 
 -- what a look-up says after an insert or a removal

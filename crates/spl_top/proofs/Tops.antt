@@ -6,6 +6,7 @@ use Rattle.std.specs.Option.{option_map}
 use Rattle.std.specs.List.{slice_split}
 use Rattle.spl_port.specs.Bytes.{Gives, Takes}
 use Rattle.spl_port.specs.Counts.{Rose}
+use Rattle.spl_message.specs.Rule.{newest}
 use Rattle.spl_script.specs.declared.script.ScriptLine.{ScriptLine}
 use Rattle.spl_script.specs.Script.{Faulty, script_text, lines_from}
 use Rattle.spl_top.specs.declared.report.Row.{Row}
@@ -69,7 +70,7 @@ module _ {A : Type 0} (words : List (String A)) (left rest held held' : Option (
   reported bytes script (rows_of_run rows early) told run cause valid kept is takes =
       let by : EndsByInput bytes (rows_of_run rows early) = subst (λ l. IfSome l (λ input. EndsByInput input (rows_of_run rows early))) told cause.1 in
       let same : by.1 ≡ script = cc in
-      let legal : IsLegal rows script = subst (IsLegal rows) same by.3 in
+      let legal : IsLegal newest rows script = subst (IsLegal newest rows) same by.3 in
       inl (rows, legal, takes, ended early by.4 same is)
     where
       ended : (b : Bool) {other : List ScriptLine} → (b ≡ false → IsComplete rows other) → other ≡ script → result ≡ status_of (rows_of_run rows b) → ((result ≡ 0) × IsComplete rows script) ⊎ (result ≡ 7)

@@ -4,6 +4,7 @@ use Rattle.std.specs.List.Sorted.{IsStrictlyIncreasing}
 use Rattle.spl_message.specs.declared.call.Call.{Call}
 use Rattle.spl_message.specs.Answer.{Answered, IsStopped}
 use Rattle.spl_message.specs.History.{Event, History}
+use Rattle.spl_message.specs.Rule.{Rule}
 use Rattle.spl_script.specs.declared.script.Deed.{Deed}
 use Rattle.spl_script.specs.declared.script.Deed.TheVariants.{One}
 use Rattle.spl_script.specs.declared.script.ScriptLine.{ScriptLine}
@@ -56,15 +57,15 @@ EndEarly (line ∷ lines) rows =
     IsCutShort line.deed rows ⊎ ((chain rest : List Row) × (rows ≡ chain ++ rest) × IsChain line.deed chain × EndEarly lines rest)
 
 -- each row that has a place and was not stopped is answered with what the calls above it make of its key
-abbrev pub IsAnswered : History → Row → Type 0
-IsAnswered history row = (place : ℕ) → row.place ≡ Some place → ¬ (IsStopped row.answer) → Answered history place row.call row.answer
+abbrev pub IsAnswered : Rule → History → Row → Type 0
+IsAnswered rule history row = (place : ℕ) → row.place ≡ Some place → ¬ (IsStopped row.answer) → Answered rule history place row.call row.answer
 
--- rows are legal for scripts: one history, in which each caller's calls stand once and in the caller's order, and each is
+-- rows are legal for scripts, under the rule of updates: one history, in which each caller's calls stand once and in the caller's order, and each is
 -- answered rightly at its place
-pub record IsLegal (rows : List Row) (script : List ScriptLine) : Type 0 where
+pub record IsLegal (rule : Rule) (rows : List Row) (script : List ScriptLine) : Type 0 where
   pub order : (placed : ℕ) × IsInOrder placed rows
   pub each_caller : (caller : ℕ) → Expand (lines_of caller script) (rows_of caller rows) ⊎ EndEarly (lines_of caller script) (rows_of caller rows)
-  pub answers : All (IsAnswered (history_of rows)) rows
+  pub answers : All (IsAnswered rule (history_of rows)) rows
 
 -- no caller ended early
 abbrev pub IsComplete : List Row → List ScriptLine → Type 0

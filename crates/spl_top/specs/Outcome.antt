@@ -1,6 +1,7 @@
 -- How a run of the program ends: with which status and which text, and why.
 use Rattle.std.specs.Prelude.{◌≡◌, ℕ, ◌+◌, ◌≤◌, ◌⊎◌, length, Bool, true, false, List, [], ◌∷◌, ◌++◌, map, codes, decimal, Option, Ok, Err, IfSome, String, string_bytes}
 use Rattle.spl_port.specs.Counts.{Rose}
+use Rattle.spl_message.specs.Rule.{newest}
 use Rattle.spl_script.specs.declared.fault.LineWhy.{LineWhy}
 use Rattle.spl_script.specs.declared.fault.LineWhy.TheVariants.{Size, Fields, Caller, Verb, Value, Text, Key, Later}
 use Rattle.spl_script.specs.declared.script.ScriptLine.{ScriptLine}
@@ -53,7 +54,7 @@ EndsByInput input bad_words = ⊥
 EndsByInput input bad_source = ⊥
 EndsByInput input (bad_line faulty) = script_text 1 input ≡ Err faulty
 EndsByInput input (rows_of_run rows early) =
-    (length input ≤ 16777216) × (script : List ScriptLine) × (script_text 1 input ≡ Ok script) × IsLegal rows script × (early ≡ false → IsComplete rows script)
+    (length input ≤ 16777216) × (script : List ScriptLine) × (script_text 1 input ≡ Ok script) × IsLegal newest rows script × (early ≡ false → IsComplete rows script)
 
 -- the source was read to its end, or 16,777,217 bytes of it were read
 abbrev pub IsRead : Option (List ℕ) → Option (List ℕ) → Type 0

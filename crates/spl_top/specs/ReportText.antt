@@ -1,13 +1,13 @@
 -- The text of a report, by cases on its rows.
-use Rattle.std.specs.Prelude.{ℕ, ◌+◌, ◌/◌, ◌%◌, ◌^◌, ◌<◌, ◌==◌, nat_lt, IfSome, Bool, ◌&&◌, ◌||◌, not, if◌then◌else◌, List, [], ◌∷◌, ◌++◌, flat_map, codes, decimal, Option, Some, None}
+use Rattle.std.specs.Prelude.{ℕ, ◌+◌, ◌/◌, ◌%◌, ◌^◌, ◌<◌, ◌==◌, nat_lt, IfSome, Bool, ◌&&◌, ◌||◌, not, if◌then◌else◌, List, [], ◌∷◌, ◌++◌, flat_map, length, codes, decimal, Option, Some, None}
 use Rattle.std.specs.List.{AllByRecursion}
 use Rattle.spl_message.specs.declared.answer.Answer.{Answer}
-use Rattle.spl_message.specs.declared.answer.Answer.TheVariants.{Done, Missing, Value, Stopped}
+use Rattle.spl_message.specs.declared.answer.Answer.TheVariants.{Done, Missing, Value, Pairs, Stopped}
 use Rattle.spl_message.specs.declared.answer.Cause.{Cause}
 use Rattle.spl_message.specs.declared.answer.Cause.TheVariants.{Fault, Damaged, Full, Nodes, Spent, Memory}
 use Rattle.spl_message.specs.declared.call.Call.{Call}
-use Rattle.spl_message.specs.declared.call.Call.TheVariants.{Put, Look}
-use Rattle.spl_message.specs.declared.message.Message.TheVariants.{Insert, Delete}
+use Rattle.spl_message.specs.declared.call.Call.TheVariants.{Put, Look, Piece}
+use Rattle.spl_message.specs.declared.message.Message.TheVariants.{Insert, Delete, Update}
 use Rattle.spl_top.specs.declared.report.Row.{Row}
 
 -- a byte from `!` to `~` that is no `%` and no `*` is written by its character
@@ -31,11 +31,18 @@ abbrev pub place_text : Option ℕ → List ℕ
 place_text None = codes "-"
 place_text (Some place) = decimal place
 
+-- an end of a scan, or `*` where it is open
+abbrev pub end_text : Option (List ℕ) → List ℕ
+end_text None = codes "*"
+end_text (Some bytes) = text_of bytes
+
 -- a call, with the verb that asks for it
 abbrev pub call_text : Call → List ℕ
 call_text (Put key (Insert value)) = codes "put " ++ text_of key ++ codes " =" ++ text_of value
+call_text (Put key (Update operand)) = codes "upd " ++ text_of key ++ codes " =" ++ text_of operand
 call_text (Put key Delete) = codes "del " ++ text_of key
 call_text (Look key) = codes "get " ++ text_of key
+call_text (Piece span) = codes "scan " ++ end_text span.from ++ codes " " ++ end_text span.to
 
 abbrev pub cause_text : Cause → List ℕ
 cause_text Fault = codes "fault"
@@ -45,32 +52,41 @@ cause_text Nodes = codes "nodes"
 cause_text Spent = codes "spent"
 cause_text Memory = codes "memory"
 
+-- a key with its value, on a line of its own behind the row's
+abbrev pub pair_text : List ℕ × List ℕ → List ℕ
+pair_text pair = codes "\n+ " ++ text_of pair.0 ++ codes " =" ++ text_of pair.1
+
 abbrev pub answer_text : Answer → List ℕ
 answer_text Done = codes "ok"
 answer_text Missing = codes "none"
 answer_text (Value value) = codes "=" ++ text_of value
+answer_text (Pairs end pairs) = end_text end ++ codes " " ++ decimal (length pairs) ++ flat_map pair_text pairs
 answer_text (Stopped cause) = cause_text cause
 
--- a row is a line
+-- a row is a line, and behind it one for each pair
 abbrev pub row_text : Row → List ℕ
 row_text row = place_text row.place ++ codes " " ++ decimal row.caller ++ codes " " ++ call_text row.call ++ codes " " ++ answer_text row.answer ++ codes "\n"
 
 abbrev pub report_text : List Row → List ℕ
 report_text rows = flat_map row_text rows
 
--- the numbers of a row are within its fields' types, and its bytes are bytes, as they are for each row that there is
+-- the numbers of a row are within its fields' types, and its bytes are bytes, as they are for each row that there is; and the row
+-- is none of a piece
 abbrev pub AreBytes : List ℕ → Type 0
 AreBytes bytes = AllByRecursion (λ byte. byte < 256) bytes
 
 abbrev pub HasCallBytes : Call → Type 0
 HasCallBytes (Put key (Insert value)) = AreBytes key × AreBytes value
+HasCallBytes (Put key (Update operand)) = AreBytes key × AreBytes operand
 HasCallBytes (Put key Delete) = AreBytes key
 HasCallBytes (Look key) = AreBytes key
+HasCallBytes (Piece span) = ⊥
 
 abbrev pub HasAnswerBytes : Answer → Type 0
 HasAnswerBytes (Value value) = AreBytes value
 HasAnswerBytes Done = Unit {0}
 HasAnswerBytes Missing = Unit {0}
+HasAnswerBytes (Pairs end pairs) = ⊥
 HasAnswerBytes (Stopped cause) = Unit {0}
 
 pub record IsInRange (row : Row) : Type 0 where

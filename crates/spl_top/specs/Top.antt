@@ -2,6 +2,7 @@
 use Rattle.std.specs.Prelude.{◌≡◌, ℕ, ◌⊎◌, List, [], Option, IfSome, Ok, Err, codes, String}
 use Rattle.spl_port.specs.Bytes.{Takes, TakesPart}
 use Rattle.spl_port.specs.Counts.{Rose}
+use Rattle.spl_message.specs.Rule.{newest}
 use Rattle.spl_script.specs.declared.script.ScriptLine.{ScriptLine}
 use Rattle.spl_script.specs.Script.{Faulty, script_text}
 use Rattle.spl_top.specs.declared.report.Row.{Row}
@@ -22,13 +23,13 @@ Says words left rest before now status text = Ends words left rest before now st
 -- script is answered; or memory ran out, and it holds that
 abbrev pub Reports : Option (List ℕ) → Option (List ℕ) → ℕ → List ScriptLine → Type 0
 Reports held now status script =
-    ((rows : List Row) × IsLegal rows script × Takes held now (report_text rows) × ((status ≡ 0) × IsComplete rows script ⊎ (status ≡ 7)))
+    ((rows : List Row) × IsLegal newest rows script × Takes held now (report_text rows) × ((status ≡ 0) × IsComplete rows script ⊎ (status ≡ 7)))
     ⊎ ((status ≡ 7) × Takes held now (codes "memory\n"))
 
 -- the whole script that the input spells is answered, and its report stands in the sink
 abbrev pub IsDone : Option (List ℕ) → Option (List ℕ) → List ℕ → Type 0
 IsDone held now input =
-    (script : List ScriptLine) × (rows : List Row) × (script_text 1 input ≡ Ok script) × IsLegal rows script × IsComplete rows script × Takes held now (report_text rows)
+    (script : List ScriptLine) × (rows : List Row) × (script_text 1 input ≡ Ok script) × IsLegal newest rows script × IsComplete rows script × Takes held now (report_text rows)
 
 -- the text is told with its status, or the sink failed or memory ran out
 abbrev pub Refuses : Option (List ℕ) → Option (List ℕ) → ℕ → List ℕ → ℕ → Type 0

@@ -1,11 +1,11 @@
 //! The report of a run: a row for each call, each with one spelling.
-ghost use Rattle.std.specs.Prelude.{◌≡◌, ◌++◌, ℕ, List, IfOk, OnOk, decimal, ◌<◌};
-ghost use Rattle.spl_top.specs.ReportText.{is_shown, hex_digit, byte_text, text_of, place_text, call_text, cause_text, answer_text, row_text, report_text, IsInRange};
+ghost use Rattle.std.specs.Prelude.{◌≡◌, ◌++◌, ℕ, List, IfOk, OnOk, flat_map, length, decimal, ◌<◌};
+ghost use Rattle.spl_top.specs.ReportText.{is_shown, hex_digit, byte_text, text_of, place_text, call_text, cause_text, end_text, pair_text, answer_text, row_text, report_text, IsInRange};
 ghost use Rattle.std.specs.List.{AllByRecursion};
 ghost use Rattle.spl_top.specs.declared.report.Row.{Row};
 
 use itoa::Buffer;
-use spl_message::{Answer, Call, Cause, Message, NoMemory};
+use spl_message::{Answer, Bound, Call, Cause, Key, Message, NoMemory, Pairs, Span, Value};
 use std::alloc::Global;
 
 /// A call as a run made it: its place in the history, where it has one, who made it, and what it was answered.
@@ -86,6 +86,12 @@ fn push_call(out: &mut Vec<u8>, call: &Call) -> Result<(), NoMemory>
             out.extend_from_slice(b" =")?;
             push_text(out, value.bytes())
         }
+        Call::Put(key, Message::Update(operand)) => {
+            out.extend_from_slice(b"upd ")?;
+            push_text(out, key.bytes())?;
+            out.extend_from_slice(b" =")?;
+            push_text(out, operand.bytes())
+        }
         Call::Put(key, Message::Delete) => {
             out.extend_from_slice(b"del ")?;
             push_text(out, key.bytes())
@@ -94,7 +100,53 @@ fn push_call(out: &mut Vec<u8>, call: &Call) -> Result<(), NoMemory>
             out.extend_from_slice(b"get ")?;
             push_text(out, key.bytes())
         }
+        Call::Piece(span) => push_span(out, span),
     }
+}
+
+/// Writes what a piece asks for.
+fn push_span(out: &mut Vec<u8>, span: &Span) -> Result<(), NoMemory>
+    ensures { OnOk result (out.new.items ≡ out.old.items ++ call_text (Call.Piece span.now)) }
+{
+    out.extend_from_slice(b"scan ")?;
+    match &span.from {
+        Some(key) => push_text(out, key.bytes())?,
+        None => out.push(b'*')?,
+    }
+    out.push(b' ')?;
+    push_end(out, &span.to)
+}
+
+/// Writes an end of a scan.
+fn push_end(out: &mut Vec<u8>, end: &Option<Bound>) -> Result<(), NoMemory>
+    ensures { OnOk result (out.new.items ≡ out.old.items ++ end_text end.now) }
+{
+    match end {
+        Some(bound) => push_text(out, bound.bytes()),
+        None => Ok(out.push(b'*')?),
+    }
+}
+
+/// Writes a key with its value, on a line of its own.
+fn push_pair(out: &mut Vec<u8>, key: &Key, value: &Value) -> Result<(), NoMemory>
+    ensures { OnOk result (out.new.items ≡ out.old.items ++ pair_text (key.now, value.now)) }
+{
+    out.extend_from_slice(b"\n+ ")?;
+    push_text(out, key.bytes())?;
+    out.extend_from_slice(b" =")?;
+    push_text(out, value.bytes())
+}
+
+/// Writes the pairs of a piece.
+fn push_pairs(out: &mut Vec<u8>, pairs: &Pairs) -> Result<(), NoMemory>
+    ensures { OnOk result (out.new.items ≡ out.old.items ++ decimal (length pairs.now) ++ flat_map pair_text pairs.now) }
+{
+    let list = pairs.as_slice();
+    push_number(out, list.len() as u64)?;
+    for (key, value) in list {
+        push_pair(out, key, value)?;
+    }
+    Ok(())
 }
 
 /// The word of a cause.
@@ -120,6 +172,11 @@ fn push_answer(out: &mut Vec<u8>, answer: &Answer) -> Result<(), NoMemory>
         Answer::Value(value) => {
             out.push(b'=')?;
             push_text(out, value.bytes())
+        }
+        Answer::Pairs { end, pairs } => {
+            push_end(out, end)?;
+            out.push(b' ')?;
+            push_pairs(out, pairs)
         }
         Answer::Stopped(cause) => Ok(out.extend_from_slice(word_of(*cause))?),
     }

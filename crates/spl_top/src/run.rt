@@ -1,5 +1,7 @@
 //! The run of a script by one caller.
 ghost use Rattle.std.specs.Prelude.{◌≡◌, ◌<◌, ◌^◌, length, vec_len, false, All, OnOk, OnErr};
+ghost use Rattle.spl_message.specs.Rule.{newest};
+ghost use Rattle.spl_script.specs.Deed.{IsDeed};
 ghost use Rattle.spl_top.specs.Cells.{cells_of};
 ghost use Rattle.spl_top.specs.Legal.{IsLegal, IsComplete};
 ghost use Rattle.spl_top.specs.Run.{Logs, Stops};
@@ -20,7 +22,7 @@ pub struct Ran {
 /// Runs the script of caller 0 over a store of its own.
 pub fn run(alloc: Global, script: &Scripts) -> Ran
     requires { All (λ line. line.caller < 1) script.now }
-    ensures legal { IsLegal result.rows.items script.now }
+    ensures legal { IsLegal newest result.rows.items script.now }
     ensures complete { result.ended_early ≡ false → IsComplete result.rows.items script.now }
 {
     let mut store = Store::new(alloc);
@@ -46,6 +48,7 @@ pub fn run(alloc: Global, script: &Scripts) -> Ran
 /// Makes the call of a line, at the next place. The row has its room before the call is made, so no call that was made goes
 /// unreported.
 fn make_line(store: &mut Store, rows: &mut Vec<Row>, line: &ScriptLine) -> Result<(), NoMemory>
+    requires { IsDeed line.now.deed }
     ensures ok { OnOk result (Logs rows.old.items rows.new.items (cells_of store.old) (cells_of store.new) line.now) }
     ensures err { OnErr result (Stops rows.old.items rows.new.items line.now) }
 {

@@ -1,7 +1,8 @@
 //! The store as one ordered map.
-ghost use Rattle.std.specs.Prelude.{◌≡◌, ℕ, List, None, IfOk, OnOk, OnErr};
-ghost use Rattle.spl_top.specs.Store.{SameCells, Puts, PutsTo, AnsweredFrom};
+ghost use Rattle.std.specs.Prelude.{◌≡◌, ℕ, List, None, Some, IfOk, OnOk, OnErr};
+ghost use Rattle.spl_top.specs.Store.{SameCells, Puts, PutsTo, SetsTo, AnsweredFrom};
 ghost use Rattle.spl_message.specs.Answer.{told_of};
+ghost use Rattle.spl_script.specs.Deed.{IsPutOrLook};
 ghost use Rattle.spl_top.specs.Cells.{cells_of};
 
 use spl_message::{Answer, Call, Key, Message, NoMemory, Value};
@@ -26,6 +27,7 @@ impl Store {
 
     /// Makes the call, and answers it.
     pub fn call(&mut self, call: &Call) -> Result<Answer, NoMemory>
+        requires { IsPutOrLook call.now }
         ensures puts { OnOk result (Puts (cells_of self.old) (cells_of self.new) call.now) }
         ensures answer { IfOk result (AnsweredFrom (cells_of self.old) call.now) }
         ensures err { OnErr result (SameCells (cells_of self.old) (cells_of self.new)) }
@@ -36,6 +38,7 @@ impl Store {
                 Ok(Answer::Done)
             }
             Call::Look(key) => self.look(key),
+            Call::Piece(_) => unreachable!(),
         }
     }
 
@@ -44,15 +47,28 @@ impl Store {
         ensures err { OnErr result (SameCells (cells_of self.old) (cells_of self.new)) }
     {
         match message {
-            Message::Insert(value) => {
-                let value = value.copy()?;
-                self.cells.insert(*key, value)?;
-            }
+            Message::Insert(value) => self.set(key, value),
+            Message::Update(operand) => self.set(key, operand),
             Message::Delete => {
-                self.cells.remove(key);
+                self.unset(key);
+                Ok(())
             }
         }
+    }
+
+    fn set(&mut self, key: &Key, value: &Value) -> Result<(), NoMemory>
+        ensures ok { OnOk result (SetsTo (cells_of self.old) (cells_of self.new) key.now (Some value.now)) }
+        ensures err { OnErr result (SameCells (cells_of self.old) (cells_of self.new)) }
+    {
+        let value = value.copy()?;
+        self.cells.insert(*key, value)?;
         Ok(())
+    }
+
+    fn unset(&mut self, key: &Key)
+        ensures { SetsTo (cells_of self.old) (cells_of self.new) key.now None }
+    {
+        self.cells.remove(key);
     }
 
     fn look(&self, key: &Key) -> Result<Answer, NoMemory>

@@ -3,6 +3,7 @@ use Rattle.std.proofs.lemmas.List.Elements.{All-push}
 use Rattle.std.proofs.lemmas.List.{length-take}
 use Rattle.std.proofs.lemmas.Result.{on_ok_weaker}
 use Rattle.spl_script.specs.declared.script.ScriptLine.{ScriptLine}
+use Rattle.spl_script.specs.Deed.{IsDeed}
 use Rattle.spl_script.proofs.Lines.{nothing_read, line_read, fault_told}
 use Rattle.spl_script.proofs.read.read_script.Goals as goal
 
@@ -14,6 +15,7 @@ loop-after-init c = record {
   numbers = rw c.new-lines.ensures.items (omega arith);
   few = rw c.new-lines.ensures.items (omega arith);
   callers = rw c.new-lines.ensures.items (λ k d none. absurd (omega arith));
+  deeds = rw c.new-lines.ensures.items (λ k d none. absurd (omega arith));
   read = nothing_read c.args.callers c.args.bytes.now c.within_limit-whole.result.now c.new-lines.result.items c.new-lines.ensures.items c.within_limit-whole.ensures;
 }
 
@@ -37,6 +39,7 @@ loop-after-preserved c =
       numbers = omega (arith, count, c.loop-after.invariant.numbers);
       few = omega (arith, count, c.loop-after.invariant.numbers, c.in-Ok.ensures.near.0);
       callers = rw items (All-push (λ (line : ScriptLine). line.caller < c.args.callers) c.loop-after.lines.items c.in-Ok.line c.loop-after.invariant.callers c.in-Ok.ensures.below);
+      deeds = rw items (All-push (λ (line : ScriptLine). IsDeed line.deed) c.loop-after.lines.items c.in-Ok.line c.loop-after.invariant.deeds c.in-Ok.ensures.deed);
       read = rw items (sym (line_read c.args.callers c.loop-after.number _ _ c.loop-after.lines.items c.in-Ok.line c.first_part.result.0.now (λ byte. eqb byte 10) c.in-Some.after.now _
           parts (omega (arith, lengths, c.loop-after.invariant.within)) c.in-Ok.ensures.value) ∙ c.loop-after.invariant.read);
     }

@@ -1,5 +1,6 @@
 use Rattle.std.proofs.Common.{◌≡◌, ◌+◌, ◌-◌, ◌<◌, ◌≤◌, ℕ, eqb, take, length}
 use Rattle.std.specs.List.{slice_split, All}
+use Rattle.spl_script.specs.Deed.{IsDeed}
 use Rattle.spl_script.specs.Script.{script_text, lines_from}
 use Rattle.spl_script.proofs.Lines.{behind}
 use Rattle.spl_script.proofs.read.read_script.Given as goal
@@ -12,6 +13,7 @@ invariant-loop-after l = record {
   numbers : l.number ≡ length l.lines.items + 1;
   few : length l.lines.items ≤ 500000;
   callers : All (λ line. line.caller < l.callers) l.lines.items;
+  deeds : All (λ line. IsDeed line.deed) l.lines.items;
   read : behind l.lines.items (lines_from l.callers l.number (length l.whole - length l.rest) (slice_split (λ byte. eqb byte 10) l.rest)) ≡ script_text l.callers l.fn.bytes;
 }
 

@@ -1,0 +1,14 @@
+-- What a line may ask for.
+use Rattle.spl_message.specs.declared.call.Call.{Call}
+use Rattle.spl_message.specs.declared.call.Call.TheVariants.{Put, Look, Piece}
+use Rattle.spl_script.specs.declared.script.Deed.{Deed}
+use Rattle.spl_script.specs.declared.script.Deed.TheVariants.{One}
+
+-- the one call of a line is a put or a lookup
+abbrev pub IsPutOrLook : Call → Type 0
+IsPutOrLook (Put key message) = Unit {0}
+IsPutOrLook (Look key) = Unit {0}
+IsPutOrLook (Piece span) = ⊥
+
+abbrev pub IsDeed : Deed → Type 0
+IsDeed (One call) = IsPutOrLook call
