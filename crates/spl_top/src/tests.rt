@@ -1,7 +1,7 @@
 ghost use Rattle.std.specs.Prelude.{Some};
 
 use crate::{Row, splinter, write_report};
-use spl_message::{Answer, Bound, Call, Cause, Key, Message, Pairs, Span, Value};
+use spl_message::{Answer, Call, Cause, Key, Message, Value};
 use spl_port::{Failed, MemSink, MemSource, Sink};
 use std::alloc::Global;
 use std::test::Fail;
@@ -110,8 +110,6 @@ fn a_sink_that_fails_holds_a_front_of_the_report(rt: HostRuntime) -> Result<(), 
 const TOLD_ROWS: &str = "12 3 put %00%25 =%FF~ ok
 - 3 del %00%25 memory
 13 0 upd %00%25 =5 ok
-14 0 scan * %00%25%00 * 1
-+ %00%25 =5
 ";
 
 #[test]
@@ -120,8 +118,6 @@ fn each_row_has_its_spelling(rt: HostRuntime) -> Result<(), Fail> {
     let key = Key::read(b"\x00%")?;
     let value = Value::read(alloc, b"\xff~")?;
     let operand = Value::read(alloc, b"5")?;
-    let mut living = Vec::new(alloc);
-    living.push((key, operand.copy()?))?;
     let rows = [
         Row {
             place: Some(12),
@@ -140,18 +136,6 @@ fn each_row_has_its_spelling(rt: HostRuntime) -> Result<(), Fail> {
             caller: 0,
             call: Call::Put(key, Message::Update(operand)),
             answer: Answer::Done,
-        },
-        Row {
-            place: Some(14),
-            caller: 0,
-            call: Call::Piece(Span {
-                from: None,
-                to: Some(Bound::after(&key)),
-            }),
-            answer: Answer::Pairs {
-                end: None,
-                pairs: Pairs::of(living),
-            },
         },
     ];
     let text = write_report(alloc, &rows)?;
