@@ -2,9 +2,11 @@
 use Rattle.std.specs.Prelude.{ℕ, List, [], ◌∷◌, take, flat_map, None, if◌then◌else◌}
 use Rattle.spl_message.specs.declared.message.Message.{Message}
 use Rattle.spl_message.specs.declared.call.Call.{Call}
-use Rattle.spl_message.specs.declared.call.Call.TheVariants.{Put, Look}
-use Rattle.spl_message.specs.Cell.{Cell, act_all}
+use Rattle.spl_message.specs.declared.call.Call.TheVariants.{Put, Look, Piece}
+use Rattle.spl_message.specs.Cell.{Cell}
 use Rattle.spl_message.specs.Key.{same_key}
+use Rattle.spl_message.specs.Message.{act_all}
+use Rattle.spl_message.specs.Rule.{Rule}
 
 -- a call with the actor that made it
 pub record Event : Type 0 where
@@ -19,7 +21,8 @@ History = List Event
 abbrev pub messages_to : List ℕ → Call → List Message
 messages_to key (Put other message) = if same_key other key then message ∷ [] else []
 messages_to key (Look other) = []
+messages_to key (Piece span) = []
 
 -- the cell of a key at a place: what the messages of the calls above it make of no value, in their order
-abbrev pub cell_at : History → ℕ → List ℕ → Cell
-cell_at history place key = act_all key None (flat_map (λ event. messages_to key event.call) (take place history))
+abbrev pub cell_at : Rule → History → ℕ → List ℕ → Cell
+cell_at rule history place key = act_all rule key None (flat_map (λ event. messages_to key event.call) (take place history))

@@ -1,5 +1,11 @@
 pub mod Answer
+pub mod Bound
 pub mod Cell
 pub mod History
 pub mod Key
+pub mod Message
+pub mod Pairs
 pub mod Room
+pub mod Rule
+pub mod Span
+pub mod Table

@@ -1,16 +1,16 @@
--- A key's room is its bytes and zeros behind them, 64 in all, so the bytes give the room back.
+-- A room is some bytes and zeros behind them, up to the room's size, so the bytes give the room back.
 use Rattle.std.specs.Prelude.{◌≡◌, ℕ, ◌-◌, ◌≤◌, List, ◌++◌, length, take, drop, replicate}
 use Rattle.std.proofs.Common.{arith, ap, ◌∙◌, sym, take-append-drop, length-take-le}
 
--- the bytes, with zeros up to the room's end
-abbrev pub padded : List ℕ → List ℕ
-padded bytes = bytes ++ replicate (64 - length bytes) 0
+-- the bytes, with zeros up to the room's size
+abbrev pub padded : ℕ → List ℕ → List ℕ
+padded size bytes = bytes ++ replicate (size - length bytes) 0
 
-pub length_again : (room : List ℕ) (len : ℕ) → len ≤ 64 → length room ≡ 64 → length (take len room) ≡ len
-length_again room len small whole = length-take-le len room (omega arith)
+pub length_again : (size : ℕ) (room : List ℕ) (len : ℕ) → len ≤ size → length room ≡ size → length (take len room) ≡ len
+length_again size room len small whole = length-take-le len room (omega arith)
 
-pub padded_again : (room : List ℕ) (len : ℕ) → len ≤ 64 → length room ≡ 64 → drop len room ≡ replicate (64 - len) 0 → padded (take len room) ≡ room
-padded_again room len small whole zeros =
-    ap (λ n. take len room ++ replicate (64 - n) 0) (length_again room len small whole)
+pub padded_again : (size : ℕ) (room : List ℕ) (len : ℕ) → len ≤ size → length room ≡ size → drop len room ≡ replicate (size - len) 0 → padded size (take len room) ≡ room
+padded_again size room len small whole zeros =
+    ap (λ n. take len room ++ replicate (size - n) 0) (length_again size room len small whole)
     ∙ ap (λ rest. take len room ++ rest) (sym zeros)
     ∙ take-append-drop len room

@@ -1,3 +1,5 @@
+use crate::bound::Bound;
+use crate::pairs::Pairs;
 use crate::value::Value;
 
 /// Why a call was stopped.
@@ -26,6 +28,9 @@ pub enum Answer {
     Missing,
     /// The key's value.
     Value(Value),
+    /// The keys that have a value, with their values, from the start of the span that was asked for up to this end, which is
+    /// the span's end or stands before it.
+    Pairs { end: Option<Bound>, pairs: Pairs },
     /// The call was stopped.
     Stopped(Cause),
 }

@@ -2,6 +2,7 @@ ghost use Rattle.std.specs.Prelude.{◌≡◌, IfOk};
 
 use crate::key::Key;
 use crate::message::Message;
+use crate::span::Span;
 use spl_base::NoMemory;
 
 /// A call on the store.
@@ -11,6 +12,8 @@ pub enum Call {
     Put(Key, Message),
     /// Asks for the key's value.
     Look(Key),
+    /// Asks for the keys of the span that have a value, or for those of a first part of it.
+    Piece(Span),
 }
 
 impl Call {
@@ -21,6 +24,7 @@ impl Call {
         match self {
             Call::Put(key, message) => Ok(Call::Put(*key, message.copy()?)),
             Call::Look(key) => Ok(Call::Look(*key)),
+            Call::Piece(span) => Ok(Call::Piece(*span)),
         }
     }
 }

@@ -1,10 +1,10 @@
-ghost use Rattle.std.specs.Prelude.{◌≡◌, ◌<◌, ◌≤◌, ◌↔◌, [], length, take, All, Some, IsOk, IfOk, nat_eq, refl};
+ghost use Rattle.std.specs.Prelude.{◌≡◌, ◌<◌, ◌≤◌, ◌↔◌, length, Some, IsOk, IfOk, nat_eq, refl};
 ghost use Rattle.std.specs.Ordering.{nat_cmp};
 ghost use Rattle.std.specs.Cmp.{on_equiv, on_total, on_po, on_per, partial_equiv_from_equiv};
 ghost use Rattle.std.specs.Cmp.Lexicographic.{pointwise, slice_cmp, nat_list_eq_equiv, nat_list_cmp_total, texts_po, texts_ties};
 ghost use Rattle.spl_message.specs.Key.{IsKey};
-ghost use Rattle.spl_message.specs.Room.{padded};
 
+use crate::room::{front, room_of};
 use std::cmp::Ordering;
 use std::error::Error;
 use std::fmt;
@@ -33,11 +33,11 @@ impl Model for Key {
 
     ghost invariant = { λ k. (0 < k.len) × (k.len ≤ 64) × (length k.room ≡ 64) × (drop k.len k.room ≡ replicate (64 - k.len) 0) };
 
-    ghost inverse = { λ bytes. record { room = padded bytes; len = length bytes } };
+    ghost inverse = { λ bytes. record { room = padded 64 bytes; len = length bytes } };
 
     ghost inverse_ok = { λ k h i. record {
-      room = padded_again k.room k.len h.1 h.2 h.3 i;
-      len = length_again k.room k.len h.1 h.2 i;
+      room = padded_again 64 k.room k.len h.1 h.2 h.3 i;
+      len = length_again 64 k.room k.len h.1 h.2 i;
     } };
 }
 
@@ -77,7 +77,7 @@ impl Key {
             return Err(KeyFault::Long { len: len as u64 });
         }
         Ok(Key {
-            room: room_of(bytes),
+            room: room_of::<64>(bytes),
             len: len as u8,
         })
     }
@@ -89,27 +89,6 @@ impl Key {
     {
         front(&self.room, self.len as usize)
     }
-}
-
-/// The first bytes of the room.
-fn front(room: &[u8], len: usize) -> &[u8]
-    requires { len ≤ length room.now }
-    ensures value { result.now ≡ take len room.now }
-    ensures bytes { All (λ byte. byte < 256) result.now }
-{
-    &room[..len]
-}
-
-/// The bytes, with zeros behind them.
-fn room_of(bytes: &[u8]) -> [u8; 64]
-    requires { length bytes.now ≤ 64 }
-    ensures { result ≡ padded bytes.now }
-{
-    let mut room = [0; 64];
-    let len = bytes.len();
-    let front = &mut room[..len];
-    front.copy_from_slice(bytes);
-    room
 }
 
 impl PartialEq for Key {

@@ -2,19 +2,36 @@
 //!
 //! A history is the list of all calls in the order of their places. What a key holds at a place is one fold of
 //! the messages that the calls above that place put to it (`specs/History.antt`), and every layer answers by that
-//! fold (`specs/Answer.antt`).
+//! fold (`specs/Answer.antt`). What an update makes of a value is the rule of a merge law (`specs/Rule.antt`), by
+//! which several messages of a key become one (`combine`) and a last one becomes a value (`settle`). The layers below
+//! a call hold tables of messages (`specs/Table.antt`), and a branch is one that others can ask (`Content`).
 #![tactic(auto)]
 
 mod answer;
+mod bound;
 mod call;
+mod content;
 mod key;
+mod law;
+mod merge;
 mod message;
+mod newest;
+mod pairs;
+mod room;
+mod span;
 mod value;
 
 pub use answer::{Answer, Cause};
+pub use bound::Bound;
 pub use call::Call;
+pub use content::Content;
 pub use key::{Key, KeyFault};
+pub use law::MergeLaw;
+pub use merge::{combine, settle};
 pub use message::Message;
+pub use newest::Newest;
+pub use pairs::Pairs;
+pub use span::Span;
 pub use spl_base::NoMemory;
 pub use value::{Value, ValueFault};
 

@@ -10,6 +10,8 @@ pub enum Message {
     Insert(Value),
     /// The key has no value from now on.
     Delete,
+    /// The key has from now on what the merge law makes of its value, or of none, with this operand.
+    Update(Value),
 }
 
 impl Message {
@@ -20,6 +22,7 @@ impl Message {
         match self {
             Message::Insert(value) => Ok(Message::Insert(value.copy()?)),
             Message::Delete => Ok(Message::Delete),
+            Message::Update(operand) => Ok(Message::Update(operand.copy()?)),
         }
     }
 }

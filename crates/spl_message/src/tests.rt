@@ -1,4 +1,8 @@
+ghost use Rattle.std.specs.Prelude.{◌≡◌, true, [], ◌∷◌, IfOk, None};
+ghost use Rattle.spl_message.specs.Rule.{Rule};
+
 use super::*;
+use std::alloc::Global;
 use std::test::Fail;
 
 #[test]
@@ -22,5 +26,178 @@ fn a_value_has_at_most_512_bytes_and_an_equal_copy(rt: HostRuntime) -> Result<()
     assert!(rt; copy == value);
     let message = Message::Insert(value);
     assert!(rt; message.copy()? == message);
+    Ok(())
+}
+
+#[test]
+fn the_bound_after_a_key_ends_a_span_of_that_key_alone(rt: HostRuntime) -> Result<(), Fail> {
+    let mut bytes = [7u8; 64];
+    let key = Key::read(&bytes)?;
+    bytes[63] = 8;
+    let next = Key::read(&bytes)?;
+    let after = Bound::after(&key);
+    assert_eq!(rt; after.bytes().len(), 65);
+    assert_eq!(rt; after.key(), None);
+    assert_eq!(rt; Bound::of(&key).key(), Some(key));
+    let span = Span {
+        from: Some(key),
+        to: Some(after),
+    };
+    assert!(rt; span.holds(&key));
+    assert!(rt; !span.holds(&next));
+    let piece = Call::Piece(span);
+    assert!(rt; piece.copy()? == piece);
+    Ok(())
+}
+
+fn value(alloc: Global, text: &str) -> Result<Value, Fail> {
+    Ok(Value::read(alloc, text.as_bytes())?)
+}
+
+fn update(alloc: Global, text: &str) -> Result<Message, Fail> {
+    Ok(Message::Update(value(alloc, text)?))
+}
+
+#[test]
+fn an_update_is_combined_with_what_it_meets(rt: HostRuntime) -> Result<(), Fail> {
+    let alloc = rt.alloc();
+    let key = Key::read(b"a")?;
+    for (older, newer, both) in [
+        (
+            Message::Delete,
+            update(alloc, "3")?,
+            Message::Insert(value(alloc, "3")?),
+        ),
+        (
+            update(alloc, "3")?,
+            update(alloc, "4")?,
+            update(alloc, "4")?,
+        ),
+        (update(alloc, "3")?, Message::Delete, Message::Delete),
+    ] {
+        assert_eq!(rt; combine(alloc, &Newest, &key, &older, &newer)?, both);
+    }
+    Ok(())
+}
+
+#[test]
+fn a_last_message_settles_to_its_value(rt: HostRuntime) -> Result<(), Fail> {
+    let alloc = rt.alloc();
+    let key = Key::read(b"a")?;
+    for (message, cell) in [
+        (
+            Some(Message::Update(value(alloc, "3")?)),
+            Some(value(alloc, "3")?),
+        ),
+        (
+            Some(Message::Insert(value(alloc, "5")?)),
+            Some(value(alloc, "5")?),
+        ),
+        (Some(Message::Delete), None),
+        (None, None),
+    ] {
+        assert_eq!(rt; settle(alloc, &Newest, &key, message)?, cell);
+    }
+    Ok(())
+}
+
+/// The operand, applied twice to no value.
+fn twice<L: MergeLaw>(alloc: Global, law: &L, key: &Key, operand: &Value) -> Result<Value, NoMemory>
+    requires { L.ready law.now }
+    ensures { IfOk result (λ value. value ≡ (L.rule law.now).apply key.now None ((L.rule law.now).join key.now operand.now operand.now)) }
+{
+    let once = law.apply(alloc, key, None, operand)?;
+    law.apply(alloc, key, Some(&once), operand)
+}
+
+#[test]
+fn a_reference_to_a_law_is_that_law(rt: HostRuntime) -> Result<(), Fail> {
+    let alloc = rt.alloc();
+    let key = Key::read(b"a")?;
+    let operand = value(alloc, "3")?;
+    assert_eq!(rt; twice(alloc, &Newest, &key, &operand)?, value(alloc, "3")?);
+    assert_eq!(rt; twice(alloc, &&Newest, &key, &operand)?, value(alloc, "3")?);
+    assert_eq!(rt;
+        Newest.join(alloc, &key, &operand, &value(alloc, "4")?)?,
+        value(alloc, "4")?
+    );
+    Ok(())
+}
+
+#[tactic(auto, using(crate::proofs::Rising::one_rising))]
+#[test]
+fn pairs_are_given_back_as_they_came(rt: HostRuntime) -> Result<(), Fail> {
+    let alloc = rt.alloc();
+    let pairs = Pairs::of(vec![in alloc; (Key::read(b"a")?, value(alloc, "1")?)]?);
+    assert_eq!(rt; pairs.as_slice().len(), 1);
+    assert!(rt; pairs == Pairs::of(vec![in alloc; (Key::read(b"a")?, value(alloc, "1")?)]?));
+    assert_eq!(rt; pairs.into_vec().len(), 1);
+    Ok(())
+}
+
+/// A branch of one key, which tells.
+#[derive(Drop)]
+struct Leaf {
+    entry: (Key, Message),
+}
+
+#[tactic(auto, using(crate::proofs::Rising::one_rising))]
+impl Content for Leaf {
+    ghost TELLS = { true };
+
+    const TELLS: bool = true;
+
+    ghost table = { λ leaf. leaf.entry ∷ [] };
+
+    ghost number = { λ _. 7 };
+
+    ghost extents = { λ _. 3 ∷ [] };
+
+    ghost entries = { λ _. 1 };
+
+    ghost cuts = { λ _. [] };
+
+    ghost reach = { λ _ _. 1 };
+
+    fn number(&self) -> u64 {
+        7
+    }
+
+    fn extents(&self) -> &[u32] {
+        &[3]
+    }
+
+    fn entries(&self) -> u64 {
+        1
+    }
+
+    fn cuts(&self) -> &[Key] {
+        &[]
+    }
+
+    fn reach(&self, _key: &Key) -> u32 {
+        1
+    }
+}
+
+/// What a caller sees that knows only the trait.
+fn shape<B: Content>(branch: &B, key: &Key) -> (u64, usize, u64, usize, u32) {
+    (
+        branch.number(),
+        branch.extents().len(),
+        branch.entries(),
+        branch.cuts().len(),
+        branch.reach(key),
+    )
+}
+
+#[test]
+fn a_branch_is_seen_through_its_trait(rt: HostRuntime) -> Result<(), Fail> {
+    let key = Key::read(b"a")?;
+    let leaf = Leaf {
+        entry: (key, Message::Delete),
+    };
+    assert_eq!(rt; shape(&leaf, &key), (7, 1, 1, 0, 1));
+    assert!(rt; Leaf::TELLS);
     Ok(())
 }

@@ -1,7 +1,0 @@
--- Behind the bytes stand the zeros that the room began with.
-use Rattle.std.proofs.Common.{◌++◌, ap, length}
-use Rattle.std.proofs.lemmas.List.{drop-replicate}
-use Rattle.spl_message.proofs.key.room_of.Goals as goal
-
-pub returns : goal.returns
-returns c = rw c.copy_from_slice.ensures.after (ap (λ rest. c.args.bytes.now ++ rest) (drop-replicate (length c.args.bytes.now) 64 0))

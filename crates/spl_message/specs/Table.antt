@@ -1,0 +1,50 @@
+-- Tables: what a memtable or a branch holds.
+use Rattle.std.specs.Prelude.{◌≡◌, ℕ, ◌%◌, ◌==◌, nat_lt, Bool, true, false, ◌&&◌, if◌then◌else◌, List, map, filter, flat_map, Option, None, option_to_list}
+use Rattle.std.specs.BTreeMap.{is_at}
+use Rattle.std.specs.Cmp.Lexicographic.{slice_cmp}
+use Rattle.std.specs.List.{enumerate_from}
+use Rattle.std.specs.Map.{keys_of, lookup}
+use Rattle.std.specs.Option.{option_map}
+use Rattle.std.specs.Ordering.{nat_cmp}
+use Rattle.spl_message.specs.declared.message.Message.{Message}
+use Rattle.spl_message.specs.declared.message.Message.TheVariants.{Insert}
+use Rattle.spl_message.specs.declared.span.Span.{Span}
+use Rattle.spl_message.specs.Key.{AreRising}
+use Rattle.spl_message.specs.Message.{combine_all, settle}
+use Rattle.spl_message.specs.Rule.{Rule}
+use Rattle.spl_message.specs.Span.{in_span}
+
+-- a message for each of some keys
+abbrev pub Table : Type 0
+Table = List (List ℕ × Message)
+
+-- the entries stand in the order of their keys, and no key has two
+abbrev pub IsTable : Table → Type 0
+IsTable table = AreRising (keys_of table)
+
+-- the message of a key, where it has one
+abbrev pub message_at : Table → List ℕ → Option Message
+message_at table key = lookup (is_at (slice_cmp nat_cmp key)) table
+
+-- the messages of a key in the tables, in the order of the tables
+abbrev pub chain : List Table → List ℕ → List Message
+chain tables key = flat_map (λ table. option_to_list (message_at table key)) tables
+
+-- the keys of rank 1,024, 2,048, 3,072 and so on, counted from 0
+abbrev pub cuts_of : Table → List (List ℕ)
+cuts_of table = map (λ ranked. ranked.1) (filter (λ ranked. nat_lt 0 ranked.0 && (ranked.0 % 1024 == 0)) (enumerate_from 0 (keys_of table)))
+
+-- what a merge keeps of a key's combined message: above the bottom the message; at the bottom, where nothing older lies below,
+-- the insert of the value that it settles to, and nothing where that is none
+abbrev pub kept : Rule → Bool → List ℕ → Option Message → Option Message
+kept rule false key message = message
+kept rule true key message = option_map Insert (settle rule key message)
+
+-- the message that a key of the span has when the tables are merged, of which the oldest comes first
+abbrev pub merged : Rule → List Table → Span → Bool → List ℕ → Option Message
+merged rule tables span bottom key = if in_span span key then kept rule bottom key (combine_all rule key (chain tables key)) else None
+
+-- the table is the merged tables
+pub record IsMerged (rule : Rule) (tables : List Table) (span : Span) (bottom : Bool) (table : Table) : Type 0 where
+  pub order : IsTable table
+  pub messages : (key : List ℕ) → message_at table key ≡ merged rule tables span bottom key
