@@ -213,8 +213,7 @@ fn write_entry(out: &mut Vec<u8>, entry: &IndexEntry) -> Result<(), NoMemory>
     ensures ok { OnOk result (out.new.items ≡ out.old.items ++ index_entry_text entry.now) }
     ensures is_key { IsKey entry.now.first }
 {
-    let first = entry.first;
-    let key = first.bytes();
+    let key = entry.first.bytes();
     let mut head = [0; ENTRY_HEAD];
     BigEndian::write_u32(&mut head, entry.child);
     head[4] = key.len() as u8;

@@ -8,10 +8,14 @@ mod fault;
 mod frame;
 mod index_entry;
 mod index_page;
+mod leaf_entry;
+mod leaf_page;
 
 pub use fault::PageFault;
 pub use index_entry::IndexEntry;
 pub use index_page::IndexPage;
+pub use leaf_entry::LeafEntry;
+pub use leaf_page::LeafPage;
 
 #[cfg(test)]
 mod tests;

@@ -1,5 +1,5 @@
 use super::*;
-use spl_message::Key;
+use spl_message::{Key, Message, Value};
 use spl_port::{At, Damaged, PageBytes, Why};
 use std::alloc::Global;
 use std::test::Fail;
@@ -10,6 +10,14 @@ const INDEX: At = At {
     branch: 7,
     page: 2,
     leaf: false,
+};
+
+/// Page 0 of branch 7, where a leaf page is wanted.
+const LEAF: At = At {
+    extent: 0,
+    branch: 7,
+    page: 0,
+    leaf: true,
 };
 
 /// The page's bytes with one of the first 256 changed.
@@ -74,6 +82,77 @@ fn a_damaged_index_page_is_refused_for_its_first_fault(rt: HostRuntime) -> Resul
         let bytes = changed(&written, place, byte);
         let fault = IndexPage::read(rt.alloc(), &bytes, INDEX).err();
         assert_eq!(rt; fault, Some(PageFault::Damaged(Damaged { at: INDEX, why })));
+    }
+    Ok(())
+}
+
+/// The leaf page 0 of branch 7, which inserts `1` at `a`, deletes `b`, and updates `c` with `2`.
+fn three_messages(alloc: Global) -> Result<PageBytes, Fail> {
+    let insert = Message::Insert(Value::read(alloc, b"1")?);
+    let update = Message::Update(Value::read(alloc, b"2")?);
+    let a = Key::read(b"a")?;
+    let b = Key::read(b"b")?;
+    let c = Key::read(b"c")?;
+    let mut page = LeafPage::new(alloc);
+    if !page.fits(&a, &insert) {
+        return Err("no room for a".into());
+    }
+    page.push(&a, &insert)?;
+    if a >= b || !page.fits(&b, &Message::Delete) {
+        return Err("no room for b above it".into());
+    }
+    page.push(&b, &Message::Delete)?;
+    if b >= c || !page.fits(&c, &update) {
+        return Err("no room for c above it".into());
+    }
+    page.push(&c, &update)?;
+    Ok(page.write(LEAF)?)
+}
+
+#[test]
+fn messages_are_read_as_they_were_written(rt: HostRuntime) -> Result<(), Fail> {
+    let written = three_messages(rt.alloc())?;
+    let text =
+        b"L\x01\x00\x03\x00\x00\x00\x00\x00\x00\x00\x00\x00\x00\x00\x07\x01\x00\x00\x01a1\x01\x01\x00\x00b\x01\x02\x00\x01c2\x00";
+    assert!(rt; written.bytes().starts_with(text));
+    let page = LeafPage::read(rt.alloc(), written.bytes(), LEAF)?;
+    let entries = [
+        LeafEntry {
+            key: Key::read(b"a")?,
+            message: Message::Insert(Value::read(rt.alloc(), b"1")?),
+        },
+        LeafEntry {
+            key: Key::read(b"b")?,
+            message: Message::Delete,
+        },
+        LeafEntry {
+            key: Key::read(b"c")?,
+            message: Message::Update(Value::read(rt.alloc(), b"2")?),
+        },
+    ];
+    assert!(rt; page.entries() == entries.as_slice());
+    Ok(())
+}
+
+#[test]
+fn a_damaged_leaf_page_is_refused_for_its_first_fault(rt: HostRuntime) -> Result<(), Fail> {
+    let written = three_messages(rt.alloc())?;
+    let cases = [
+        (0, b'I', Why::Kind),
+        (7, 1, Why::Number),
+        (15, 8, Why::Number),
+        (3, 0, Why::Count),
+        (16, 65, Why::Entry),
+        (17, 3, Why::Entry),
+        (17, 1, Why::Entry),
+        (18, 16, Why::Entry),
+        (26, b'a', Why::Order),
+        (33, 1, Why::Rest),
+    ];
+    for (place, byte, why) in cases {
+        let bytes = changed(&written, place, byte);
+        let fault = LeafPage::read(rt.alloc(), &bytes, LEAF).err();
+        assert_eq!(rt; fault, Some(PageFault::Damaged(Damaged { at: LEAF, why })));
     }
     Ok(())
 }
