@@ -1,0 +1,6 @@
+use Rattle.std.proofs.Common.{◌∙◌}
+use Rattle.spl_page.proofs.Numbers.{number_is}
+use Rattle.spl_page.proofs.frame.entry_count.Goals as goal
+
+pub returns : goal.returns
+returns c = c.read_u16.ensures ∙ number_is 2 2 c.args.bytes.now

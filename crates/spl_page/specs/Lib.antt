@@ -1,0 +1,4 @@
+pub mod Frame
+pub mod IndexPage
+pub mod LeafPage
+pub mod PageFault

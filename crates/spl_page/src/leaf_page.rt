@@ -1,0 +1,293 @@
+ghost use Rattle.std.specs.Prelude.{◌≡◌, ◌+◌, ◌<◌, ◌≤◌, ◌↔◌, ◌&&◌, ◌++◌, [], ◌∷◌, true, false, length, drop, All, flat_map, IsTrue, IfOk, IfErr, IfSome, OnOk, OnErr, MatchOption};
+ghost use Rattle.std.specs.Option.{option_map};
+ghost use Rattle.spl_port.specs.Page.{IsLeafPage, is_rising, leaf_row, leaf_row_length, leaf_rows, number_at};
+ghost use Rattle.spl_page.specs.PageFault.{IsFaultOf};
+ghost use Rattle.spl_page.specs.LeafPage.{IsEntry, IsFound, is_message, kind_of, leaf_entry_length, leaf_entry_text, leaf_keys, leaf_length, leaf_row_of, leaf_rows_of, value_of};
+
+use crate::frame::{HEAD_BYTES, entry_count, head_fault, is_zeros, write_head};
+use crate::{LeafEntry, PageFault};
+use byteorder::{BigEndian, ByteOrder};
+use spl_message::{Key, Message, NoMemory, Value, ValueFault};
+use spl_port::{At, Damaged, PAGE_BYTES, PageBytes, Why};
+use std::alloc::Global;
+use std::marker::Model;
+
+/// The first byte of a leaf page.
+const KIND: u8 = 0x4C;
+
+/// How many bytes of an entry stand before its key.
+const ENTRY_HEAD: usize = 4;
+
+/// A list of keys with their messages. The keys rise. In a clause it is that list.
+#[derive(Debug, Drop)]
+pub struct LeafPage {
+    entries: Vec<LeafEntry>,
+    /// How many bytes the entries take in a page, with the first 16. It stops at the type's end.
+    bytes: usize,
+}
+
+impl Model for LeafPage {
+    ghost use Rattle.std.specs.Prelude.{List};
+    ghost use Rattle.spl_page.specs.declared.leaf_entry.LeafEntry.{LeafEntry};
+
+    ghost Value = { List LeafEntry };
+
+    ghost use Rattle.spl_page.specs.LeafPage.{IsSound};
+
+    ghost view = { λ p. p.entries.items };
+
+    ghost invariant = { λ p. IsSound p.entries.items p.bytes };
+}
+
+impl LeafPage {
+    /// A page with no keys.
+    pub fn new(alloc: Global) -> LeafPage
+        ensures { result ≡ [] }
+    {
+        LeafPage {
+            entries: Vec::new(alloc),
+            bytes: HEAD_BYTES,
+        }
+    }
+
+    /// Puts a key with a copy of the message at the end.
+    pub fn push(&mut self, key: &Key, message: &Message) -> Result<(), NoMemory>
+        requires { IsTrue (is_rising (leaf_keys self.old ++ key.now ∷ [])) }
+        ensures ok { OnOk result (self.new ≡ self.old ++ record { key = key.now; message = message.now } ∷ []) }
+        ensures err { OnErr result (self.new ≡ self.old) }
+    {
+        let key = *key;
+        let len = entry_length(&key, message);
+        let message = message.copy()?;
+        self.entries.push(LeafEntry { key, message })?;
+        self.bytes = self.bytes.saturating_add(len);
+        Ok(())
+    }
+
+    /// The keys with their messages.
+    pub fn entries(&self) -> &[LeafEntry]
+        ensures value { result.now ≡ self.now }
+        ensures rising { IsTrue (is_rising (leaf_keys self.now)) }
+    {
+        self.entries.as_slice()
+    }
+
+    /// Whether the page still has room for this key with this message.
+    pub fn fits(&self, key: &Key, message: &Message) -> bool
+        ensures { IsTrue result ↔ (leaf_length self.now + leaf_entry_length key.now message.now ≤ 4096) }
+    {
+        self.bytes <= PAGE_BYTES - entry_length(key, message)
+    }
+
+    /// The page's bytes for a place.
+    pub fn write(&self, at: At) -> Result<PageBytes, NoMemory>
+        requires leaf { at.leaf ≡ true }
+        requires fits { leaf_length self.now ≤ 4096 }
+        requires entries { 0 < length self.now }
+        ensures { IfOk result (λ page. IsLeafPage at page (leaf_rows_of self.now)) }
+    {
+        let entries = self.entries.as_slice();
+        let head = write_head(KIND, entries.len() as u16, at);
+        let alloc = *self.entries.allocator();
+        let mut out = Vec::with_capacity(alloc, PAGE_BYTES)?;
+        out.extend_from_slice(&head)?;
+        write_entries(&mut out, entries)?;
+        out.resize(PAGE_BYTES, 0)?;
+        Ok(PageBytes::from_vec(out))
+    }
+
+    /// The page that the bytes are, if they are a leaf page for the place.
+    pub fn read(alloc: Global, bytes: &[u8; PAGE_BYTES], at: At) -> Result<LeafPage, PageFault>
+        requires { at.leaf ≡ true }
+        ensures ok { IfOk result (λ page. IsLeafPage at bytes.now (leaf_rows_of page)) }
+        ensures err { IfErr result (IsFaultOf at bytes.now) }
+    {
+        let bytes = bytes.as_slice();
+        if let Some(why) = head_fault(KIND, at, bytes) {
+            return Err(PageFault::Damaged(Damaged { at, why }));
+        }
+        let Some(found) = read_entries(alloc, bytes)? else {
+            let why = Why::Entry;
+            return Err(PageFault::Damaged(Damaged { at, why }));
+        };
+        if !found.rising {
+            let why = Why::Order;
+            return Err(PageFault::Damaged(Damaged { at, why }));
+        }
+        if !is_zeros(&bytes[found.end..]) {
+            let why = Why::Rest;
+            return Err(PageFault::Damaged(Damaged { at, why }));
+        }
+        Ok(LeafPage {
+            entries: found.entries,
+            bytes: found.end,
+        })
+    }
+}
+
+/// The entries that stand in a page.
+#[derive(Debug, Drop)]
+struct Found {
+    entries: Vec<LeafEntry>,
+    /// Whether each key is above the one before it.
+    rising: bool,
+    /// The place behind the last entry.
+    end: usize,
+}
+
+/// The entries that stand in a page, if they are there.
+fn read_entries(alloc: Global, bytes: &[u8]) -> Result<Option<Found>, NoMemory>
+    requires { length bytes.now ≡ 4096 }
+    ensures { IfOk result (λ answer. MatchOption answer (leaf_rows bytes.now ≡ None) (λ found. IsFound bytes.now found.entries.items found.rising found.end)) }
+{
+    let mut entries = Vec::new(alloc);
+    let mut rising = true;
+    let mut end = HEAD_BYTES;
+    let count = entry_count(bytes);
+    for _ in 0..count {
+        let Some(entry) = read_entry(alloc, &bytes[end..])? else {
+            return Ok(None);
+        };
+        let LeafEntry { key, message } = entry;
+        rising &= rises(&entries, &key);
+        end += entry_length(&key, &message);
+        entries.push(LeafEntry { key, message })?;
+    }
+    Ok(Some(Found {
+        entries,
+        rising,
+        end,
+    }))
+}
+
+/// The entry at the front of these bytes, if there is one.
+fn read_entry(alloc: Global, bytes: &[u8]) -> Result<Option<LeafEntry>, NoMemory>
+    ensures value { IfOk result (λ answer. option_map leaf_row_of answer ≡ leaf_row bytes.now) }
+    ensures length { IfOk result (λ answer. IfSome answer (λ entry. leaf_row_length bytes.now ≡ leaf_entry_length entry.key entry.message)) }
+    ensures within { IfOk result (λ answer. IfSome answer (λ entry. leaf_entry_length entry.key entry.message ≤ length bytes.now)) }
+{
+    if bytes.len() < ENTRY_HEAD {
+        return Ok(None);
+    }
+    let kind = bytes[1];
+    let middle = ENTRY_HEAD + bytes[0] as usize;
+    let end = middle + value_length(bytes) as usize;
+    if bytes.len() < end {
+        return Ok(None);
+    }
+    let Ok(key) = Key::read(&bytes[ENTRY_HEAD..middle]) else {
+        return Ok(None);
+    };
+    let Some(message) = read_message(alloc, kind, &bytes[middle..end])? else {
+        return Ok(None);
+    };
+    Ok(Some(LeafEntry { key, message }))
+}
+
+/// How many bytes the value of the entry at the front has.
+fn value_length(bytes: &[u8]) -> u16
+    requires { 4 ≤ length bytes.now }
+    ensures { result ≡ number_at 2 2 bytes.now }
+{
+    BigEndian::read_u16(&bytes[2..])
+}
+
+/// The message of this kind with this value, if there is one.
+fn read_message(alloc: Global, kind: u8, value: &[u8]) -> Result<Option<Message>, NoMemory>
+    ensures none { IfOk result (λ answer. MatchOption answer (is_message kind (length value.now) ≡ false) (λ message. is_message kind (length value.now) ≡ true)) }
+    ensures kind { IfOk result (λ answer. IfSome answer (λ message. kind_of message ≡ kind)) }
+    ensures value { IfOk result (λ answer. IfSome answer (λ message. value_of message ≡ value.now)) }
+{
+    match kind {
+        0 => match read_value(alloc, value)? {
+            Some(value) => Ok(Some(Message::Insert(value))),
+            None => Ok(None),
+        },
+        1 if value.is_empty() => Ok(Some(Message::Delete)),
+        2 => match read_value(alloc, value)? {
+            Some(operand) => Ok(Some(Message::Update(operand))),
+            None => Ok(None),
+        },
+        _ => Ok(None),
+    }
+}
+
+/// The value of these bytes, if it is not too long.
+fn read_value(alloc: Global, bytes: &[u8]) -> Result<Option<Value>, NoMemory>
+    ensures { IfOk result (λ answer. MatchOption answer (512 < length bytes.now) (λ value. (value ≡ bytes.now) × (length bytes.now ≤ 512))) }
+{
+    match Value::read(alloc, bytes) {
+        Ok(value) => Ok(Some(value)),
+        Err(ValueFault::Long { .. }) => Ok(None),
+        Err(ValueFault::NoMemory) => Err(NoMemory),
+    }
+}
+
+/// Whether the key is above those of the entries, which rise.
+fn rises(entries: &[LeafEntry], key: &Key) -> bool
+    ensures { is_rising (leaf_keys entries.now ++ key.now ∷ []) ≡ (is_rising (leaf_keys entries.now) && result) }
+{
+    match entries.last() {
+        Some(last) => last.key < *key,
+        None => true,
+    }
+}
+
+/// How many bytes an entry with this key and this message takes.
+fn entry_length(key: &Key, message: &Message) -> usize
+    ensures value { result ≡ leaf_entry_length key.now message.now }
+    ensures short { result ≤ 580 }
+{
+    ENTRY_HEAD + key.bytes().len() + value_bytes(message).len()
+}
+
+/// The value that stands in a message.
+fn value_bytes(message: &Message) -> &[u8]
+    ensures value { result.now ≡ value_of message.now }
+    ensures short { length result.now ≤ 512 }
+{
+    match message {
+        Message::Insert(value) => value.bytes(),
+        Message::Delete => &[],
+        Message::Update(operand) => operand.bytes(),
+    }
+}
+
+/// The number of a message's kind.
+fn kind_number(message: &Message) -> u8
+    ensures { result ≡ kind_of message.now }
+{
+    match message {
+        Message::Insert(_) => 0,
+        Message::Delete => 1,
+        Message::Update(_) => 2,
+    }
+}
+
+/// Puts the bytes of the entries at the end.
+fn write_entries(out: &mut Vec<u8>, entries: &[LeafEntry]) -> Result<(), NoMemory>
+    ensures ok { OnOk result (out.new.items ≡ out.old.items ++ flat_map leaf_entry_text entries.now) }
+    ensures entries { OnOk result (All IsEntry entries.now) }
+{
+    for entry in entries {
+        write_entry(out, entry)?;
+    }
+    Ok(())
+}
+
+/// Puts the bytes of an entry at the end.
+fn write_entry(out: &mut Vec<u8>, entry: &LeafEntry) -> Result<(), NoMemory>
+    ensures ok { OnOk result (out.new.items ≡ out.old.items ++ leaf_entry_text entry.now) }
+    ensures is_entry { IsEntry entry.now }
+{
+    let key = entry.key.bytes();
+    let value = value_bytes(&entry.message);
+    let mut head = [0; ENTRY_HEAD];
+    head[0] = key.len() as u8;
+    head[1] = kind_number(&entry.message);
+    BigEndian::write_u16(&mut head[2..], value.len() as u16);
+    out.extend_from_slice(&head)?;
+    out.extend_from_slice(key)?;
+    out.extend_from_slice(value)?;
+    Ok(())
+}

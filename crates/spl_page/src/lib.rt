@@ -1,0 +1,21 @@
+//! The pages of a branch: lists of entries with rising keys, as bytes and back.
+//!
+//! A page that is read is checked against the page grammar of the place that it was asked for, so
+//! nothing of another place, and nothing damaged, gets past this crate.
+#![tactic(auto)]
+
+mod fault;
+mod frame;
+mod index_entry;
+mod index_page;
+mod leaf_entry;
+mod leaf_page;
+
+pub use fault::PageFault;
+pub use index_entry::IndexEntry;
+pub use index_page::IndexPage;
+pub use leaf_entry::LeafEntry;
+pub use leaf_page::LeafPage;
+
+#[cfg(test)]
+mod tests;
