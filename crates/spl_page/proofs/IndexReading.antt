@@ -1,6 +1,5 @@
 -- Reading the entries of an index page, and what it says of the page.
-use Rattle.std.proofs.Common.{◌≡◌, ℕ, suc, ◌+◌, ◌-◌, ◌<◌, ◌≤◌, Bool, true, false, not, ◌&&◌, cond, eqb, List, [], ◌∷◌, ◌++◌, Option, Some, None, length, drop, map, refl, sym, ap, ◌∙◌, arith}
-use Rattle.std.specs.Prelude.{sum_by}
+use Rattle.std.proofs.Common.{◌≡◌, ℕ, ◌+◌, ◌-◌, ◌<◌, ◌≤◌, Bool, true, false, not, ◌&&◌, cond, eqb, List, [], ◌∷◌, ◌++◌, Option, Some, None, length, drop, map, refl, sym, ap, ◌∙◌, arith}
 use Rattle.std.specs.List.{list_all}
 use Rattle.std.specs.Option.{option_map, option_or}
 use Rattle.std.proofs.lemmas.List.{drop-drop, length-drop, map_push}
@@ -8,7 +7,7 @@ use Rattle.std.proofs.lemmas.List.Sums.{sum_by_push}
 use Rattle.spl_port.specs.declared.at.At.{At}
 use Rattle.spl_port.specs.declared.damaged.Why.{Why}
 use Rattle.spl_port.specs.declared.damaged.Why.TheVariants.{Entry, Order, Rest}
-use Rattle.spl_port.specs.Page.{IndexRow, IsIndexPage, Rows, index_fault, index_row, index_row_length, index_rows, is_rising, page_fault, row_count, rows_fault, rows_of}
+use Rattle.spl_port.specs.Page.{IndexRow, IsIndexPage, index_fault, index_row, index_row_length, index_rows, is_rising, page_fault, row_count, rows_fault, rows_of}
 use Rattle.spl_page.specs.declared.index_entry.IndexEntry.{IndexEntry}
 use Rattle.spl_page.specs.Frame.{head_fault}
 use Rattle.spl_page.specs.IndexPage.{IsFound, first_keys, index_entry_length, index_length, index_row_of, index_rows_of}

@@ -1,4 +1,4 @@
-use Rattle.std.proofs.Common.{◌≡◌, ◌<◌, ◌≤◌, ◌++◌, ◌∙◌, List, ℕ, length, All, sym, ap, subst, arith}
+use Rattle.std.proofs.Common.{◌<◌, ◌≤◌, ◌++◌, ◌∙◌, List, ℕ, length, All, sym, ap, subst, arith}
 use Rattle.std.specs.List.{flat_map}
 use Rattle.spl_port.specs.Page.{IsIndexPage, is_rising}
 use Rattle.spl_page.specs.declared.index_entry.IndexEntry.{IndexEntry}
