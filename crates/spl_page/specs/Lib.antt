@@ -2,3 +2,4 @@ pub mod Frame
 pub mod IndexPage
 pub mod LeafPage
 pub mod PageFault
+pub mod Tables
