@@ -1,0 +1,4 @@
+pub mod Branch
+pub mod Pages
+pub mod Reading
+pub mod Tree

@@ -1,0 +1,8 @@
+//! A branch: a sorted table of messages in pages on a device, written once and sealed.
+#![tactic(auto)]
+
+mod branch;
+mod fault;
+
+pub use branch::{Branch, Parts};
+pub use fault::BranchFault;
