@@ -1,0 +1,3 @@
+pub mod Admitting
+pub mod PartPages
+pub mod Telling
