@@ -1,0 +1,3 @@
+pub mod GrowingLists
+pub mod GrowingTable
+pub mod GrowingTree
