@@ -1,3 +1,4 @@
 pub mod GrowingLists
+pub mod GrowingParts
 pub mod GrowingTable
 pub mod GrowingTree
