@@ -41,6 +41,10 @@ module _ {X : Type 0} where
   all_back P [] more all = all
   all_back P (x ∷ xs) more all = all_back P xs more all.1
 
+  pub all_weaker : (P Q : X → Type 0) (xs : List X) → ((x : X) → P x → Q x) → AllByRecursion P xs → AllByRecursion Q xs
+  all_weaker P Q [] then all = tt
+  all_weaker P Q (x ∷ xs) then all = (then x all.0, all_weaker P Q xs then all.1)
+
   pub all_take : (P : X → Type 0) (n : ℕ) (xs : List X) → AllByRecursion P xs → AllByRecursion P (take n xs)
   all_take P zero xs all = tt
   all_take P (suc n) [] all = tt

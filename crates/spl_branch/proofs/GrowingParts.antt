@@ -102,7 +102,7 @@ parts_grow number extents front part bytes parts room = record {
 
 -- ---- how many pages there are
 
-total_push : (front : List Sealed) (part : Sealed) → page_total (front ++ part ∷ []) ≡ page_total front + page_count part
+pub total_push : (front : List Sealed) (part : Sealed) → page_total (front ++ part ∷ []) ≡ page_total front + page_count part
 total_push front part = ap length (flat_map_push (λ part. part.leaves) front part) ∙ length-append (kinds_of front) part.leaves
 
 total_at_most : (parts : List Sealed) → ((j : ℕ) (part : Sealed) → slice_get parts j ≡ Some part → page_count part ≤ 32) → page_total parts ≤ 32 * length parts

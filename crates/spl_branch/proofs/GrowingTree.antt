@@ -88,7 +88,7 @@ index_table_stands height pages at bytes index sound below =
 
 -- ---- children in a row
 
-first_key_front : (table more : Table) (key : List ℕ) → first_key table ≡ Some key → first_key (table ++ more) ≡ Some key
+pub first_key_front : (table more : Table) (key : List ℕ) → first_key table ≡ Some key → first_key (table ++ more) ≡ Some key
 first_key_front [] more key is = absurd (cc)
 first_key_front (entry ∷ table) more key is = is
 
