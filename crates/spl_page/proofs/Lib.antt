@@ -6,6 +6,7 @@ pub mod LeafReading
 pub mod LeafSearching
 pub mod LeafWriting
 pub mod Numbers
+pub mod PageTables
 pub mod Rising
 pub mod Rows
 pub mod Searching
