@@ -2,7 +2,9 @@ pub mod FrameLemmas
 pub mod IndexReading
 pub mod IndexWriting
 pub mod LeafReading
+pub mod LeafTables
 pub mod LeafWriting
 pub mod Numbers
+pub mod PageText
 pub mod Rising
 pub mod Rows

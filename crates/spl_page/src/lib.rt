@@ -10,12 +10,15 @@ mod index_entry;
 mod index_page;
 mod leaf_entry;
 mod leaf_page;
+mod leaf_writer;
+mod page_text;
 
 pub use fault::PageFault;
 pub use index_entry::IndexEntry;
 pub use index_page::IndexPage;
 pub use leaf_entry::LeafEntry;
 pub use leaf_page::LeafPage;
+pub use leaf_writer::LeafWriter;
 
 #[cfg(test)]
 mod tests;
