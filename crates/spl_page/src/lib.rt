@@ -14,6 +14,8 @@ mod leaf_entry;
 mod leaf_page;
 mod leaf_search;
 mod leaf_slot;
+mod leaf_writer;
+mod page_text;
 
 pub use fault::PageFault;
 pub use index_entry::IndexEntry;
@@ -22,6 +24,7 @@ pub use index_search::find_child;
 pub use leaf_entry::LeafEntry;
 pub use leaf_page::LeafPage;
 pub use leaf_search::find_message;
+pub use leaf_writer::LeafWriter;
 
 #[cfg(test)]
 mod search_tests;
