@@ -1,5 +1,6 @@
 pub mod FrameLemmas
 pub mod IndexReading
+pub mod IndexTables
 pub mod IndexWriting
 pub mod LeafReading
 pub mod LeafTables
