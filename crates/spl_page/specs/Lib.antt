@@ -2,4 +2,5 @@ pub mod Frame
 pub mod IndexPage
 pub mod LeafPage
 pub mod PageFault
+pub mod Slots
 pub mod Tables
