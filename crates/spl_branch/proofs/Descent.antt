@@ -1,14 +1,15 @@
 -- The way down: where the tables under children are one table, a key's message is that of the child under which it belongs.
 use Rattle.std.proofs.Common.{◌≡◌, ℕ, ◌<◌, Bool, true, false, cond, List, [], ◌∷◌, ◌++◌, flat_map, Option, Some, None, refl, ap, ◌∙◌, subst}
 use Rattle.std.specs.List.{AllByRecursion}
-use Rattle.std.proofs.lemmas.List.{append-nil}
+use Rattle.std.proofs.lemmas.List.Elements.{recursion_from_All}
 use Rattle.std.specs.Option.{option_or}
 use Rattle.spl_message.specs.declared.message.Message.{Message}
 use Rattle.spl_message.specs.Key.{is_below}
 use Rattle.spl_message.specs.Table.{IsTable, Table, message_at}
 use Rattle.spl_port.specs.Counts.{Shown}
 use Rattle.spl_port.specs.Page.{IndexRow}
-use Rattle.spl_page.specs.Tables.{child_for, later}
+use Rattle.spl_page.proofs.PageTables.{children_are_below}
+use Rattle.spl_page.specs.Tables.{child_for, children, later}
 use Rattle.spl_branch.specs.Tree.{AreChildren, IsTree, first_key, table_under, tables_under}
 use Rattle.spl_branch.proofs.Joined.{left_table, message_at-append, none_before, none_from, right_table}
 
@@ -125,3 +126,10 @@ module _ (height : ℕ) (pages : List Shown) (rows : List IndexRow) (key : List 
         order = subst (λ page. IsTable (table_under height pages page)) order.is order.holds;
         message = the_message ∙ ap (λ found. message_under (table_under height pages) found key) found;
       }
+
+-- a child has a number below its page's, whatever the bytes
+pub child_below : (page : ℕ) (bytes key : List ℕ) (child : ℕ) → child_for (children page bytes) key ≡ Some child → child < page
+child_below page bytes key child is =
+    let each = recursion_from_All (λ row. row.child < page) (children page bytes) (children_are_below page bytes) in
+    let found = found_child (λ row. row.child < page) (children page bytes) key child each is in
+    subst (λ (number : ℕ). number < page) found.is found.holds
