@@ -1,12 +1,11 @@
 -- A look-up on its way down: at each page the key's message in the branch is the one that stands under the page.
-use Rattle.std.proofs.Common.{◌≡◌, ℕ, zero, suc, ◌+◌, ◌-◌, ◌<◌, ◌≤◌, Bool, true, false, cond, List, [], ◌∷◌, Option, Some, None, refl, sym, ap, ◌∙◌, subst, arith}
+use Rattle.std.proofs.Common.{◌≡◌, ℕ, zero, suc, ◌+◌, ◌-◌, ◌<◌, ◌≤◌, Bool, true, false, cond, List, Option, Some, None, refl, sym, ap, ◌∙◌, subst, arith}
 use Rattle.std.specs.List.{slice_get}
 use Rattle.std.specs.Option.{IsSomeAnd}
 use Rattle.spl_message.specs.declared.message.Message.{Message}
 use Rattle.spl_message.specs.Table.{IsTable, message_at}
-use Rattle.spl_port.specs.declared.damaged.Damaged.{Damaged as Damage}
 use Rattle.spl_port.specs.declared.damaged.Why.{Why}
-use Rattle.spl_port.specs.Counts.{Counts, Rose, Shown}
+use Rattle.spl_port.specs.Counts.{Counts, Shown}
 use Rattle.spl_port.specs.Page.{index_fault, leaf_fault, page_fault}
 use Rattle.spl_port.specs.Port.{ReadsOne}
 use Rattle.spl_page.specs.Tables.{child_for, children, leaf_table}
@@ -14,10 +13,10 @@ use Rattle.spl_branch.specs.declared.fault.BranchFault.{BranchFault}
 use Rattle.spl_branch.specs.declared.fault.BranchFault.TheVariants.{Fault, Damaged, NoMemory}
 use Rattle.spl_branch.specs.declared.visit.Visit.{Visit}
 use Rattle.spl_branch.specs.declared.visit.Visit.TheVariants.{Found, Child}
-use Rattle.spl_branch.specs.Branch.{Branch, HoldsTable, IsBranch, table_of}
+use Rattle.spl_branch.specs.Branch.{Branch, IsBranch, table_of}
 use Rattle.spl_branch.specs.Pages.{AreTold, page_total, shown_pages}
-use Rattle.spl_branch.specs.Reading.{HasBranchCause, IsDamage, OnlyReads}
-use Rattle.spl_branch.specs.Tree.{AreChildren, IsIndexAt, IsLeafAt, IsTree, children_at, shown_children, shown_table, table_at, table_under, tables_under}
+use Rattle.spl_branch.specs.Reading.{HasBranchCause, OnlyReads}
+use Rattle.spl_branch.specs.Tree.{IsTree, children_at, shown_children, shown_table, table_under}
 use Rattle.spl_branch.specs.Visiting.{HasVisitCause, by_child, visit_of}
 use Rattle.spl_branch.proofs.Descent.{leads, leads_nowhere}
 use Rattle.spl_branch.proofs.PartPages.{some_pages}

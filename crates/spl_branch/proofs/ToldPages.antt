@@ -1,11 +1,11 @@
 -- Where parts tell their pages, the told page at a place is the branch's page with the number of the place.
-use Rattle.std.proofs.Common.{◌≡◌, ℕ, zero, suc, ◌+◌, ◌*◌, ◌/◌, ◌%◌, ◌<◌, ◌≤◌, List, [], ◌∷◌, Option, Some, None, length, map, refl, sym, ap, ◌∙◌, arith}
+use Rattle.std.proofs.Common.{◌≡◌, ℕ, zero, suc, ◌+◌, ◌/◌, ◌%◌, ◌<◌, List, [], ◌∷◌, Option, Some, None, length, map, refl, ap, ◌∙◌, arith}
 use Rattle.std.specs.Bool.{IsTrue}
 use Rattle.std.specs.List.{slice_get, enumerate_from}
 use Rattle.std.specs.Option.{IfSome, is_some, unwrap_or}
 use Rattle.spl_port.specs.Counts.{Shown}
 use Rattle.spl_port.specs.Seal.{Allows, Sealed, page_count, place}
-use Rattle.spl_branch.specs.Pages.{AreParts, AreTold, IsTold, shown_pages, shown_part, told_pages}
+use Rattle.spl_branch.specs.Pages.{AreParts, AreTold, shown_pages, shown_part, told_pages}
 use Rattle.spl_branch.proofs.PartPages.{Are32, at-32}
 
 -- the page that stands at place r of a part

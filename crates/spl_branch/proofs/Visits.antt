@@ -1,5 +1,5 @@
 -- What the page that was fetched is to the branch.
-use Rattle.std.proofs.Common.{◌≡◌, ℕ, ◌+◌, ◌-◌, ◌/◌, ◌%◌, ◌<◌, ◌≤◌, Bool, true, false, cond, List, Option, Some, None, length, get_or, map, refl, sym, ap, ◌∙◌, subst, arith}
+use Rattle.std.proofs.Common.{◌≡◌, ℕ, ◌/◌, ◌%◌, ◌<◌, true, false, cond, List, Option, Some, length, get_or, map, sym, ap, ◌∙◌, subst, arith}
 use Rattle.std.specs.List.{slice_get}
 use Rattle.std.specs.Option.{IfSome, IsSomeAnd}
 use Rattle.std.proofs.lemmas.List.{length-map}
@@ -8,7 +8,6 @@ use Rattle.spl_message.specs.declared.message.Message.{Message}
 use Rattle.spl_message.specs.Table.{message_at}
 use Rattle.spl_port.specs.declared.at.At.{At}
 use Rattle.spl_port.specs.declared.damaged.Damaged.{Damaged as Damage}
-use Rattle.spl_port.specs.declared.damaged.Why.{Why}
 use Rattle.spl_port.specs.Counts.{Counts, Shown}
 use Rattle.spl_port.specs.Page.{page_fault}
 use Rattle.spl_port.specs.Seal.{Allows, Sealed, page_count, place}
@@ -16,15 +15,14 @@ use Rattle.spl_page.specs.declared.fault.PageFault.{PageFault}
 use Rattle.spl_page.specs.declared.fault.PageFault.TheVariants.{Damaged as DamagedPage, NoMemory as NoMemoryForPage}
 use Rattle.spl_page.specs.PageFault.{IsFaultOf}
 use Rattle.spl_page.specs.Tables.{child_for, children, leaf_table}
-use Rattle.spl_branch.specs.declared.visit.Visit.{Visit}
-use Rattle.spl_branch.specs.declared.visit.Visit.TheVariants.{Found, Child}
+use Rattle.spl_branch.specs.declared.visit.Visit.TheVariants.{Found}
 use Rattle.spl_branch.specs.Branch.{Branch, IsBranch}
 use Rattle.spl_branch.specs.Faults.{of_page}
 use Rattle.spl_branch.specs.Pages.{AreTold, page_total, shown_pages}
 use Rattle.spl_branch.specs.Reading.{IsPlaceOf}
 use Rattle.spl_branch.specs.Visiting.{HasVisitCause, IsPageDamage, by_child, visit_of}
 use Rattle.spl_branch.proofs.PartPages.{part_at, seal_part}
-use Rattle.spl_branch.proofs.ToldPages.{read_is, shown_page}
+use Rattle.spl_branch.proofs.ToldPages.{read_is}
 
 -- the branch has a part for the page
 pub seal_there : {S : Type 0} (means : S → Sealed) (branch : Branch) (seals : List S) (page : ℕ) → IsBranch branch → branch.parts ≡ map means seals → page < page_total branch.parts

@@ -16,18 +16,25 @@ pub(crate) enum Visit {
     Child(u32),
 }
 
-/// What the bytes of the page at the place say of the key. Nothing is copied but the message.
-pub(crate) fn read(alloc: Global, bytes: &[u8; PAGE_BYTES], at: At, key: &Key) -> Result<Visit, PageFault>
-    ensures ok { IfOk result (λ visit. visit ≡ visit_of (record { at = at; bytes = bytes.now }) key.now) }
-    ensures below { IfOk result (GoesBelow at.page) }
-    ensures err { IfErr result (IsFaultOf at bytes.now) }
-{
-    if at.leaf {
-        return Ok(Visit::Found(find_message(alloc, bytes, at, key)?));
-    }
-    match find_child(bytes, at, key) {
-        Ok(Some(child)) => Ok(Visit::Child(child)),
-        Ok(None) => Ok(Visit::Found(None)),
-        Err(damaged) => Err(PageFault::Damaged(damaged)),
+impl Visit {
+    /// What the bytes of the page at the place say of the key. Nothing is copied but the message.
+    pub(crate) fn read(
+        alloc: Global,
+        bytes: &[u8; PAGE_BYTES],
+        at: At,
+        key: &Key,
+    ) -> Result<Visit, PageFault>
+        ensures ok { IfOk result (λ visit. visit ≡ visit_of (record { at = at; bytes = bytes.now }) key.now) }
+        ensures below { IfOk result (GoesBelow at.page) }
+        ensures err { IfErr result (IsFaultOf at bytes.now) }
+    {
+        if at.leaf {
+            return Ok(Visit::Found(find_message(alloc, bytes, at, key)?));
+        }
+        match find_child(bytes, at, key) {
+            Ok(Some(child)) => Ok(Visit::Child(child)),
+            Ok(None) => Ok(Visit::Found(None)),
+            Err(damaged) => Err(PageFault::Damaged(damaged)),
+        }
     }
 }

@@ -1,4 +1,4 @@
-use Rattle.std.proofs.Common.{◌≡◌, ℕ, [], ap, arith, subst, sym, ◌∙◌}
+use Rattle.std.proofs.Common.{◌≡◌, ℕ, [], ap, arith, subst, sym}
 use Rattle.std.proofs.lemmas.Result.{err_from_is_err_and}
 use Rattle.spl_page.specs.PageFault.{IsFaultOf}
 use Rattle.spl_branch.specs.Branch.{Branch, IsBranch}
@@ -48,10 +48,10 @@ returns-clause-told g c =
     let is = c.in_ok-read.ensures.ok in
     told_page c.args.self.now c.args.page (g.S.Seal.means c.index-seal.result.now) c.at-at.result c.in_ok-bytes.bytes page c.at-at.ensures
     (λ shown. c.in_ok-read.field-0 ≡ visit_of shown c.args.key.now) c.in_ok-bytes.ensures.ok
-    (is ∙ ap (λ bytes. visit_of (record { at = c.at-at.result; bytes = bytes }) c.args.key.now) bytes)
+    (subst (λ bytes. c.in_ok-read.field-0 ≡ visit_of (record { at = c.at-at.result; bytes = bytes }) c.args.key.now) bytes is)
 
 pub returns-clause-below : goal.returns-clause-below
-returns-clause-below g c = 
+returns-clause-below g c =
     let page = the_page g (goal.at.returns-clause-below g c).After-index-seal in
     let own = own_number c.args.self.now c.args.page (g.S.Seal.means c.index-seal.result.now) c.at-at.result [] page c.at-at.ensures in
     subst (λ (page : ℕ). GoesBelow page c.in_ok-read.field-0) own c.in_ok-read.ensures.below

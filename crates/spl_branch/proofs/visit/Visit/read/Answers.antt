@@ -1,6 +1,6 @@
 use Rattle.std.proofs.Common.{sym, ◌∙◌}
 use Rattle.spl_branch.proofs.Descent.{child_below}
-use Rattle.spl_branch.proofs.visit.read.Goals as goal
+use Rattle.spl_branch.proofs.visit.Visit.read.Goals as goal
 
 pub returns-in-Ok-Some-clause-below : goal.returns-in-Ok-Some-clause-below
 returns-in-Ok-Some-clause-below c =
