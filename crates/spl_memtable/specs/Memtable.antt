@@ -13,8 +13,8 @@ pub record IsFull (table : Table) (key : List ℕ) : Type 0 where
   pub missing : message_at table key ≡ None
   pub keys : length table ≡ MEMTABLE_KEYS
 
--- the new table has at the key the one message that stands for what the old one had and this message,
--- at every other key what the old one had, and no more keys than those
+-- the new table has at the key the one message that stands for what the old one had and this message, and at every other key
+-- what the old one had; a key that was not there is one more
 pub record Puts (rule : Rule) (old new : Table) (key : List ℕ) (message : Message) : Type 0 where
   pub order : IsTable new
   pub this_key : message_at new key ≡ combine_all rule key (option_to_list (message_at old key) ++ message ∷ [])

@@ -50,12 +50,19 @@ fn a_full_memtable_takes_messages_of_its_keys_alone(rt: HostRuntime) -> Result<(
     Ok(())
 }
 
+/// What threads may share.
+fn shared<T: Send + Sync>(value: &T) -> &T {
+    value
+}
+
 #[test]
 fn freezing_keeps_what_is_there(rt: HostRuntime) -> Result<(), Fail> {
     let frozen = filled(rt.alloc())?.freeze();
+    let frozen = shared(&frozen);
     assert_eq!(rt; frozen.keys(), 1024);
     assert_eq!(rt; frozen.get(&Key::read(&[0, 7])?), Some(&Message::Delete));
-    assert_eq!(rt; frozen.slice(&EVERYTHING)?.entries().len(), 1024);
+    let slice = frozen.slice(&EVERYTHING)?;
+    assert_eq!(rt; shared(&slice).entries().len(), 1024);
     Ok(())
 }
 

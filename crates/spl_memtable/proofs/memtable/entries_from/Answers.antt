@@ -1,6 +1,5 @@
-use Rattle.std.proofs.Common.{◌≡◌, List, ℕ, filter, Option, Some, subst, sym, ◌∙◌}
+use Rattle.std.proofs.Common.{◌≡◌, List, ℕ, filter, Option, subst, sym, ◌∙◌}
 use Rattle.spl_message.specs.Span.{is_from}
-use Rattle.spl_message.specs.Table.{Table}
 use Rattle.spl_memtable.proofs.Parts.{from_start}
 use Rattle.spl_memtable.proofs.memtable.entries_from.Goals as goal
 use Rattle.spl_memtable.proofs.memtable.entries_from.Goals.{in-Some, in-None}

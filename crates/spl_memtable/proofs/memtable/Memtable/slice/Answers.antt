@@ -1,4 +1,4 @@
-use Rattle.std.proofs.Common.{◌≡◌, true, false, ◌∷◌, sym, subst, ap, ◌∙◌}
+use Rattle.std.proofs.Common.{◌≡◌, false, sym, subst, ◌∙◌}
 use Rattle.spl_message.specs.Span.{is_before}
 use Rattle.spl_message.specs.Table.{IsTable}
 use Rattle.spl_memtable.specs.Memtable.{part_of}
