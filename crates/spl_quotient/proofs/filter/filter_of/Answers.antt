@@ -1,4 +1,4 @@
-use Rattle.std.proofs.Common.{ℕ, ◌+◌, ◌^◌, ◌<◌, ◌↔◌, subst, sym}
+use Rattle.std.proofs.Common.{◌+◌, ◌^◌, ◌<◌, ◌↔◌, subst, sym}
 use Rattle.std.specs.Prelude.{All, Contains}
 use Rattle.std.proofs.lemmas.List.Elements.{All-contains, Contains-get_or}
 use Rattle.spl_quotient.specs.Table.{prints_in}
