@@ -1,5 +1,5 @@
 -- What holds of the table of a sound leaf page and of the children of a sound index page.
-use Rattle.std.proofs.Common.{◌≡◌, ℕ, zero, suc, ◌+◌, ◌<◌, ◌≤◌, Bool, true, false, not, ◌&&◌, cond, ltb, leb, eqb, List, [], ◌∷◌, Option, Some, None, length, drop, map, refl, sym, ap, subst, ◌∙◌, arith}
+use Rattle.std.proofs.Common.{◌≡◌, ℕ, zero, suc, ◌<◌, Bool, true, false, not, ◌&&◌, cond, ltb, eqb, List, [], ◌∷◌, Option, Some, None, length, drop, map, refl, sym, ap, subst, ◌∙◌, arith}
 use Rattle.std.specs.Prelude.{All}
 use Rattle.std.specs.Cmp.{first_so, second_so}
 use Rattle.std.specs.Cmp.Lexicographic.{slice_cmp, nat_list_cmp_total}
@@ -10,13 +10,13 @@ use Rattle.std.specs.Option.{option_and_then, option_map, option_or}
 use Rattle.std.specs.Ordering.{nat_cmp, is_lt}
 use Rattle.std.specs.declared.cmp.Ordering.{Ordering}
 use Rattle.std.specs.declared.cmp.Ordering.TheVariants.{Less, Equal, Greater}
-use Rattle.std.proofs.lemmas.Bool.{eqb-true, ltb-true, leb-true}
+use Rattle.std.proofs.lemmas.Bool.{ltb-true}
 use Rattle.std.proofs.lemmas.List.Elements.{All-from_recursion}
 use Rattle.spl_message.specs.Key.{AreRising}
 use Rattle.spl_message.specs.Table.{IsTable}
 use Rattle.spl_port.specs.declared.at.At.{At}
 use Rattle.spl_port.specs.declared.damaged.Why.{Why}
-use Rattle.spl_port.specs.declared.damaged.Why.TheVariants.{Kind, Number, Count, Entry, Order, Rest}
+use Rattle.spl_port.specs.declared.damaged.Why.TheVariants.{Kind, Number, Count, Order, Rest}
 use Rattle.spl_port.specs.Page.{IndexRow, LeafRow, Rows, index_fault, index_row, index_row_length, index_rows, is_rising, is_rising_above, kind_fault, leaf_fault, leaf_row, leaf_row_length, leaf_rows, number_at, row_count, rows_fault, rows_of}
 use Rattle.spl_page.specs.Frame.{head_fault}
 use Rattle.spl_page.specs.Tables.{child_keys, children, found_rows, leaf_table, table_entry}

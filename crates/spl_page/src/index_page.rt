@@ -1,4 +1,4 @@
-ghost use Rattle.std.specs.Prelude.{◌≡◌, ◌+◌, ◌<◌, ◌≤◌, ◌↔◌, ◌&&◌, ◌++◌, [], ◌∷◌, false, length, drop, All, flat_map, IsTrue, IfOk, IfErr, IfSome, OnOk, OnErr, MatchOption};
+ghost use Rattle.std.specs.Prelude.{◌≡◌, ◌+◌, ◌<◌, ◌≤◌, ◌↔◌, ◌&&◌, ◌++◌, [], ◌∷◌, false, length, All, flat_map, IsTrue, IfOk, IfErr, IfSome, OnOk, OnErr, MatchOption};
 ghost use Rattle.std.specs.Option.{option_map};
 ghost use Rattle.spl_message.specs.Key.{IsKey};
 ghost use Rattle.spl_port.specs.Page.{IsIndexPage, index_row, index_row_length, index_rows, is_rising};
