@@ -1,4 +1,4 @@
-use Rattle.std.proofs.Common.{◌<◌, ◌++◌, ◌∷◌, [], List, refl, sym, ap, subst, Some, arith, All}
+use Rattle.std.proofs.Common.{◌<◌, List, refl, sym, ap, subst, Some, arith, All}
 use Rattle.std.proofs.lemmas.List.{nil_from_length}
 use Rattle.std.proofs.lemmas.List.Elements.{All-nil}
 use Rattle.spl_port.specs.Page.{IndexRow}
