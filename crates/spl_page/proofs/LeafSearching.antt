@@ -2,8 +2,7 @@
 use Rattle.std.proofs.Common.{◌≡◌, ℕ, ◌+◌, ◌<◌, ◌≤◌, Bool, true, false, ◌&&◌, cond, List, [], ◌∷◌, ◌++◌, Option, Some, None, length, drop, map, refl, sym, ap, ◌∙◌}
 use Rattle.std.specs.BTreeMap.{is_at}
 use Rattle.std.specs.Cmp.Lexicographic.{slice_cmp}
-use Rattle.std.specs.Map.{lookup}
-use Rattle.std.specs.Option.{option_map, option_or}
+use Rattle.std.specs.Option.{is_some, option_map, option_or}
 use Rattle.std.specs.Ordering.{nat_cmp, is_lt}
 use Rattle.std.proofs.lemmas.List.{map_push}
 use Rattle.std.proofs.lemmas.Map.Text.{is_eq-slice_cmp}
@@ -13,7 +12,7 @@ use Rattle.spl_message.specs.Table.{Table, message_at}
 use Rattle.spl_port.specs.Page.{LeafRow, is_rising, leaf_row, leaf_row_length, leaf_rows, row_count}
 use Rattle.spl_page.specs.declared.leaf_slot.LeafSlot.{LeafSlot}
 use Rattle.spl_page.specs.Slots.{IsLeafSearch, leaf_slot_row, slot_message}
-use Rattle.spl_page.specs.Tables.{found_rows, leaf_table, message_of, table_entry}
+use Rattle.spl_page.specs.Tables.{found_rows, leaf_table, table_entry}
 use Rattle.spl_page.proofs.Searching.{Seen, seen_all, seen_more, seen_none, seen_stops}
 
 abbrev key_of : LeafRow → List ℕ
@@ -49,6 +48,23 @@ found_more : (slot : Option LeafSlot) (next : LeafSlot) (b : Bool)
 found_more (Some slot) next b = refl
 found_more None next true = refl
 found_more None next false = refl
+
+-- the entry is the key's, and none was found before
+pub found_here : (slot : Option LeafSlot) (next : LeafSlot) (same : Bool) → is_some slot ≡ false → same ≡ true → Some next ≡ option_or slot (cond same (Some next) None)
+found_here None next true none is = refl
+found_here None next false none is = absurd cc
+found_here (Some slot) next same none is = absurd cc
+
+-- it is not the key's
+pub found_not : (slot : Option LeafSlot) (next : LeafSlot) (same : Bool) → same ≡ false → slot ≡ option_or slot (cond same (Some next) None)
+found_not None next false is = refl
+found_not None next true is = absurd cc
+found_not (Some slot) next same is = refl
+
+-- one was found before
+pub found_before : (slot : Option LeafSlot) (next : LeafSlot) (same : Bool) → is_some slot ≡ true → slot ≡ option_or slot (cond same (Some next) None)
+found_before None next same some = absurd cc
+found_before (Some slot) next same some = refl
 
 -- the pass has seen i of the entries
 pub record LeafSeen (bytes key : List ℕ) (count i : ℕ) (rest last : List ℕ) (rises : Bool) (slot : Option LeafSlot) : Type 0 where

@@ -1,52 +1,21 @@
 -- What holds of the table of a sound leaf page and of the children of a sound index page.
-use Rattle.std.proofs.Common.{◌≡◌, ℕ, zero, suc, ◌+◌, ◌<◌, ◌≤◌, Bool, true, false, not, ◌&&◌, cond, ltb, leb, eqb, List, [], ◌∷◌, Option, Some, None, length, drop, map, refl, sym, ap, subst, ◌∙◌, arith}
+use Rattle.std.proofs.Common.{◌≡◌, ℕ, zero, suc, ◌<◌, Bool, true, false, not, ◌&&◌, cond, ltb, eqb, List, [], ◌∷◌, Option, Some, None, length, drop, map, refl, sym, ap, subst, ◌∙◌, arith}
 use Rattle.std.specs.Prelude.{All}
-use Rattle.std.specs.Cmp.{first_so, second_so}
-use Rattle.std.specs.Cmp.Lexicographic.{slice_cmp, nat_list_cmp_total}
 use Rattle.std.specs.List.{AllByRecursion, list_all}
-use Rattle.std.specs.List.Sorted.{IsStrictlySortedBy}
 use Rattle.std.specs.Map.{keys_of}
 use Rattle.std.specs.Option.{option_and_then, option_map, option_or}
-use Rattle.std.specs.Ordering.{nat_cmp, is_lt}
-use Rattle.std.specs.declared.cmp.Ordering.{Ordering}
-use Rattle.std.specs.declared.cmp.Ordering.TheVariants.{Less, Equal, Greater}
-use Rattle.std.proofs.lemmas.Bool.{eqb-true, ltb-true, leb-true}
+use Rattle.std.proofs.lemmas.Bool.{ltb-true}
 use Rattle.std.proofs.lemmas.List.Elements.{All-from_recursion}
 use Rattle.spl_message.specs.Key.{AreRising}
 use Rattle.spl_message.specs.Table.{IsTable}
 use Rattle.spl_port.specs.declared.at.At.{At}
 use Rattle.spl_port.specs.declared.damaged.Why.{Why}
-use Rattle.spl_port.specs.declared.damaged.Why.TheVariants.{Kind, Number, Count, Entry, Order, Rest}
-use Rattle.spl_port.specs.Page.{IndexRow, LeafRow, Rows, index_fault, index_row, index_row_length, index_rows, is_rising, is_rising_above, kind_fault, leaf_fault, leaf_row, leaf_row_length, leaf_rows, number_at, row_count, rows_fault, rows_of}
+use Rattle.spl_port.specs.declared.damaged.Why.TheVariants.{Kind, Number, Count, Order, Rest}
+use Rattle.spl_port.specs.Page.{IndexRow, LeafRow, Rows, index_fault, index_row, index_row_length, index_rows, is_rising, kind_fault, leaf_fault, leaf_row, leaf_row_length, leaf_rows, number_at, row_count, rows_fault, rows_of}
 use Rattle.spl_page.specs.Frame.{head_fault}
 use Rattle.spl_page.specs.Tables.{child_keys, children, found_rows, leaf_table, table_entry}
 use Rattle.spl_page.proofs.FrameLemmas.{kind_fault_is}
-
--- ---- keys whose test says that they rise
-
-less : (o : Ordering) → is_lt o ≡ true → o ≡ Less
-less Less h = refl
-less Equal h = absurd cc
-less Greater h = absurd cc
-
-above_all : (last key : List ℕ) (keys : List (List ℕ)) → slice_cmp nat_cmp last key ≡ Less → AllByRecursion (λ other. slice_cmp nat_cmp key other ≡ Less) keys
-    → AllByRecursion (λ other. slice_cmp nat_cmp last other ≡ Less) keys
-above_all last key [] first others = tt
-above_all last key (next ∷ keys) first others = (nat_list_cmp_total.trans last key next first others.0, above_all last key keys first others.1)
-
-rise_above : (last : List ℕ) (keys : List (List ℕ)) → is_rising_above last keys ≡ true
-    → AllByRecursion (λ other. slice_cmp nat_cmp last other ≡ Less) keys × IsStrictlySortedBy (slice_cmp nat_cmp) keys
-unfolding IsStrictlySortedBy
-rise_above last [] rising = (tt, tt)
-rise_above last (key ∷ keys) rising =
-    let first = less (slice_cmp nat_cmp last key) (first_so (is_lt (slice_cmp nat_cmp last key)) (is_rising_above key keys) rising) in
-    let others = rise_above key keys (second_so (is_lt (slice_cmp nat_cmp last key)) (is_rising_above key keys) rising) in
-    ((first, above_all last key keys first others.0), others)
-
-pub are_rising : (keys : List (List ℕ)) → is_rising keys ≡ true → AreRising keys
-unfolding IsStrictlySortedBy
-are_rising [] rising = tt
-are_rising (key ∷ keys) rising = rise_above key keys rising
+use Rattle.spl_page.proofs.Rising.{rising_passed}
 
 -- ---- entries that are there
 
@@ -140,7 +109,7 @@ leaf_sound at bytes none = sound_rows 76 (λ row. row.key) leaf_row leaf_row_len
 pub leaf_table_rises : (at : At) (bytes : List ℕ) → leaf_fault at bytes ≡ None → IsTable (leaf_table bytes)
 unfolding leaf_table
 leaf_table_rises at bytes none =
-    are_rising (keys_of (map table_entry (found_rows (leaf_rows bytes)))) (ap is_rising (table_keys (found_rows (leaf_rows bytes))) ∙ (leaf_sound at bytes none).rising)
+    rising_passed (keys_of (map table_entry (found_rows (leaf_rows bytes)))) (ap is_rising (table_keys (found_rows (leaf_rows bytes))) ∙ (leaf_sound at bytes none).rising)
 
 -- a sound leaf page has a key
 pub leaf_table_has_some : (at : At) (bytes : List ℕ) → leaf_fault at bytes ≡ None → 0 < length (leaf_table bytes)
@@ -161,7 +130,7 @@ index_sound at bytes none = sound_rows 73 (λ row. row.key) (index_row at.page) 
 -- the first keys of a sound index page's children rise
 pub children_rise : (at : At) (bytes : List ℕ) → index_fault at bytes ≡ None → AreRising (child_keys (children at.page bytes))
 unfolding children
-children_rise at bytes none = are_rising (child_keys (found_rows (index_rows at.page bytes))) (index_sound at bytes none).rising
+children_rise at bytes none = rising_passed (child_keys (found_rows (index_rows at.page bytes))) (index_sound at bytes none).rising
 
 -- a sound index page has a child
 pub children_has_some : (at : At) (bytes : List ℕ) → index_fault at bytes ≡ None → 0 < length (children at.page bytes)

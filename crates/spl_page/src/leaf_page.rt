@@ -1,8 +1,8 @@
-ghost use Rattle.std.specs.Prelude.{◌≡◌, ◌+◌, ◌<◌, ◌≤◌, ◌↔◌, ◌&&◌, ◌++◌, [], ◌∷◌, true, false, length, drop, All, flat_map, IsTrue, IfOk, IfErr, IfSome, OnOk, OnErr, MatchOption};
+ghost use Rattle.std.specs.Prelude.{◌≡◌, ◌+◌, ◌<◌, ◌≤◌, ◌↔◌, ◌&&◌, ◌++◌, [], ◌∷◌, true, length, All, flat_map, IsTrue, IfOk, IfErr, IfSome, OnOk, OnErr, MatchOption};
 ghost use Rattle.std.specs.Option.{option_map};
-ghost use Rattle.spl_port.specs.Page.{IsLeafPage, is_rising, leaf_row, leaf_row_length, leaf_rows, number_at};
+ghost use Rattle.spl_port.specs.Page.{IsLeafPage, is_rising, leaf_row, leaf_row_length, leaf_rows};
 ghost use Rattle.spl_page.specs.PageFault.{IsFaultOf};
-ghost use Rattle.spl_page.specs.LeafPage.{IsEntry, IsFound, is_message, kind_of, leaf_entry_length, leaf_entry_text, leaf_keys, leaf_length, leaf_row_of, leaf_rows_of, value_of};
+ghost use Rattle.spl_page.specs.LeafPage.{IsEntry, IsFound, kind_of, leaf_entry_length, leaf_entry_text, leaf_keys, leaf_length, leaf_row_of, leaf_rows_of, value_of};
 
 use crate::frame::{HEAD_BYTES, entry_count, head_fault, rows_fault, write_head};
 use crate::leaf_slot::{ENTRY_HEAD, LeafSlot};
@@ -182,7 +182,7 @@ fn rises(entries: &[LeafEntry], key: &Key) -> bool
 }
 
 /// How many bytes an entry with this key and this message takes.
-fn entry_length(key: &Key, message: &Message) -> usize
+pub(crate) fn entry_length(key: &Key, message: &Message) -> usize
     ensures value { result ≡ leaf_entry_length key.now message.now }
     ensures short { result ≤ 580 }
 {
@@ -218,22 +218,24 @@ fn write_entries(out: &mut Vec<u8>, entries: &[LeafEntry]) -> Result<(), NoMemor
     ensures entries { OnOk result (All IsEntry entries.now) }
 {
     for entry in entries {
-        write_entry(out, entry)?;
+        write_entry(out, &entry.key, &entry.message)?;
     }
     Ok(())
 }
 
 /// Puts the bytes of an entry at the end.
-fn write_entry(out: &mut Vec<u8>, entry: &LeafEntry) -> Result<(), NoMemory>
-    ensures ok { OnOk result (out.new.items ≡ out.old.items ++ leaf_entry_text entry.now) }
-    ensures is_entry { IsEntry entry.now }
+pub(crate) fn write_entry(out: &mut Vec<u8>, key: &Key, message: &Message) -> Result<(), NoMemory>
+    ensures ok { OnOk result (out.new.items ≡ out.old.items ++ leaf_entry_text (record { key = key.now; message = message.now })) }
+    ensures err { OnErr result (out.new.items ≡ out.old.items) }
+    ensures is_entry { IsEntry (record { key = key.now; message = message.now }) }
 {
-    let key = entry.key.bytes();
-    let value = value_bytes(&entry.message);
+    let key = key.bytes();
+    let value = value_bytes(message);
     let mut head = [0; ENTRY_HEAD];
     head[0] = key.len() as u8;
-    head[1] = kind_number(&entry.message);
+    head[1] = kind_number(message);
     BigEndian::write_u16(&mut head[2..], value.len() as u16);
+    out.reserve(ENTRY_HEAD + key.len() + value.len())?;
     out.extend_from_slice(&head)?;
     out.extend_from_slice(key)?;
     out.extend_from_slice(value)?;

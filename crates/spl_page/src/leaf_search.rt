@@ -1,7 +1,6 @@
 //! Finding a key's message in the bytes of a leaf page, in one pass over the entries that also checks them.
-ghost use Rattle.std.specs.Prelude.{◌≡◌, true, None, Some, length, if◌then◌else◌, IfOk, IfErr, MatchOption};
-ghost use Rattle.std.specs.Option.{option_map, option_or};
-ghost use Rattle.spl_message.specs.Key.{same_key};
+ghost use Rattle.std.specs.Prelude.{◌≡◌, true, None, Some, length, IfOk, IfErr, MatchOption};
+ghost use Rattle.std.specs.Option.{option_map};
 ghost use Rattle.spl_message.specs.Table.{message_at};
 ghost use Rattle.spl_port.specs.Page.{leaf_fault, leaf_rows, page_fault};
 ghost use Rattle.spl_page.specs.PageFault.{IsFaultOf};
@@ -88,22 +87,13 @@ fn search_entries<'a>(bytes: &'a [u8], key: &[u8]) -> Option<Search<'a>>
         rising &= last.cmp(&slot.key).is_lt();
         last = slot.key;
         rest = &rest[slot.length()..];
-        found = first_of(found, slot, key);
+        if found.is_none() && key == slot.key {
+            found = Some(slot);
+        }
     }
     Some(Search {
         found,
         rising,
         rest,
     })
-}
-
-/// What was found before, or else this entry if it is the key's.
-fn first_of<'a>(found: Option<LeafSlot<'a>>, slot: LeafSlot<'a>, key: &[u8]) -> Option<LeafSlot<'a>>
-    ensures { result ≡ option_or found.entry (if same_key key.now slot.entry.key.now then Some slot.entry else None) }
-{
-    match found {
-        Some(found) => Some(found),
-        None if key == slot.key => Some(slot),
-        None => None,
-    }
 }
