@@ -5,8 +5,8 @@ use Rattle.std.specs.List.{slice_get, enumerate_from}
 use Rattle.std.specs.Option.{IfSome, is_some, unwrap_or}
 use Rattle.spl_port.specs.Counts.{Shown}
 use Rattle.spl_port.specs.Seal.{Allows, Sealed, page_count, place}
-use Rattle.spl_branch.specs.Pages.{AreParts, AreTold, shown_pages, shown_part, told_pages}
-use Rattle.spl_branch.proofs.PartPages.{Are32, at-32}
+use Rattle.spl_branch.specs.Pages.{AreParts, AreTold, page_total, shown_pages, shown_part, told_pages}
+use Rattle.spl_branch.proofs.PartPages.{Are32, at-32, part_at, slice_get_some}
 
 -- the page that stands at place r of a part
 abbrev pub shown_page : Sealed → ℕ → List ℕ → Shown
@@ -54,3 +54,32 @@ module _ (number : ℕ) (extents : List ℕ) (parts : List Sealed) (are : ArePar
       at-32 shown_part parts (page / 32) (page % 32) page part shown-32 at (omega arith) (omega arith)
       ∙ shown_at part 0 (page % 32) (told_pages part) bytes (allowed_told part.told (page % 32) bytes allows (told (page / 32) part at))
       ∙ ap (λ r. Some (shown_page part r bytes)) (let e : 0 + page % 32 ≡ page % 32 = omega arith in e)
+
+-- a told page of the branch, with its place
+pub record PageAt (parts : List Sealed) (page : ℕ) : Type 0 where
+  pub part : Sealed
+  pub bytes : List ℕ
+  pub there : slice_get parts (page / 32) ≡ Some part
+  pub within : page % 32 < page_count part
+  pub own : (place part (page % 32)).page ≡ page
+  pub told : slice_get (told_pages part) (page % 32) ≡ Some bytes
+  pub shown : slice_get (shown_pages parts) page ≡ Some (shown_page part (page % 32) bytes)
+
+pub page_at : (number : ℕ) (extents : List ℕ) (parts : List Sealed) (page : ℕ) → AreParts number extents parts → AreTold parts → page < page_total parts → PageAt parts page
+page_at number extents parts page are told within =
+    let at = part_at number extents parts page are within in
+    let count = counted_told at.part.told (page_count at.part) (are.each (page / 32) at.part at.there).told (told (page / 32) at.part at.there) in
+    let found = slice_get_some (told_pages at.part) (page % 32) (omega (arith, at.within)) in
+    record {
+      part = at.part;
+      bytes = found.0;
+      there = at.there;
+      within = at.within;
+      own = at.own;
+      told = found.1;
+      shown =
+          at-32 shown_part parts (page / 32) (page % 32) page at.part (shown-32 number extents parts are told) at.there
+          (omega (arith, shown_count number extents parts are told (page / 32) at.part at.there, at.within)) (omega arith)
+          ∙ shown_at at.part 0 (page % 32) (told_pages at.part) found.0 found.1
+          ∙ ap (λ r. Some (shown_page at.part r found.0)) (let e : 0 + page % 32 ≡ page % 32 = omega arith in e);
+    }

@@ -111,8 +111,9 @@ impl<S: Seal> Content for Branch<S> {
     }
 
     fn reach(&self, key: &Key) -> u32 {
+        let levels = self.parts.levels;
         if is_admitted(&self.parts.filter, key) {
-            self.parts.levels
+            levels
         } else {
             0
         }

@@ -1,6 +1,5 @@
 ghost use Rattle.std.specs.Prelude.{◌≡◌};
 ghost use Rattle.spl_branch.specs.Faults.{of_page, of_port};
-ghost use Rattle.spl_branch.specs.declared.fault.BranchFault.TheVariants.{Damaged as of_damaged};
 
 use spl_message::NoMemory;
 use spl_page::PageFault;
@@ -39,14 +38,6 @@ impl From<PortFault> for BranchFault {
             PortFault::Failed => BranchFault::Fault,
             PortFault::NoMemory => BranchFault::NoMemory,
         }
-    }
-}
-
-impl From<Damaged> for BranchFault {
-    ghost from_gives = { λ damaged e. e ≡ of_damaged damaged };
-
-    fn from(damaged: Damaged) -> BranchFault {
-        BranchFault::Damaged(damaged)
     }
 }
 

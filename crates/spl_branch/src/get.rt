@@ -73,9 +73,9 @@ impl<S: Seal> Branch<S> {
         ensures counts { OnlyReads (P.counts port.old) (P.counts port.new) }
         ensures cause { IfErr result (HasBranchCause self.now (P.counts port.old) (P.counts port.new)) }
     {
-        if !is_admitted(&self.parts.filter, key) {
-            return Ok(None);
+        if is_admitted(&self.parts.filter, key) {
+            return self.descend(port, pager, key);
         }
-        self.descend(port, pager, key)
+        Ok(None)
     }
 }

@@ -8,3 +8,6 @@ mod visit;
 
 pub use branch::{Branch, Parts};
 pub use fault::BranchFault;
+
+#[cfg(test)]
+mod tests;

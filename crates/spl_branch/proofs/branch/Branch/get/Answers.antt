@@ -17,19 +17,19 @@ told g c tells =
 admitted : (g : Over) (c : After-is_admitted g) → c.is_admitted.result ≡ admits c.args.self.now.filter c.args.key.now
 admitted g c = c.is_admitted.ensures ∙ ap (λ (branch : Branch). admits branch.filter c.args.key.now) c.self.view_is
 
-pub returns-then-not-is_admitted-clause-table : goal.returns-then-not-is_admitted-clause-table
-returns-then-not-is_admitted-clause-table g c tells =
-    let before = (goal.at.returns-then-not-is_admitted-clause-table g c).After-is_admitted in
-    let is = subst IsBranch c.self.view_is c.self.invariant.0 in
-    sym (not_there c.args.self.now c.args.key.now (is.told (told g before tells)) (sym (admitted g before) ∙ c.if-not-is_admitted.true))
-
 pub returns-clause-table : goal.returns-clause-table
-returns-clause-table g c tells = c.descend.ensures.table (told g (goal.at.returns-clause-table g c).After-is_admitted tells)
+returns-clause-table g c tells =
+    let before = (goal.at.returns-clause-table g c).After-is_admitted in
+    let is = subst IsBranch c.self.view_is c.self.invariant.0 in
+    sym (not_there c.args.self.now c.args.key.now (is.told (told g before tells)) (sym (admitted g before) ∙ c.if-is_admitted.false))
 
-pub returns-clause-reach : goal.returns-clause-reach
-returns-clause-reach g c tells =
-    let before = (goal.at.returns-clause-reach g c).After-is_admitted in
+pub returns-then-is_admitted-clause-table : goal.returns-then-is_admitted-clause-table
+returns-then-is_admitted-clause-table g c tells = c.descend.ensures.table (told g (goal.at.returns-then-is_admitted-clause-table g c).After-is_admitted tells)
+
+pub returns-then-is_admitted-clause-reach : goal.returns-then-is_admitted-clause-reach
+returns-then-is_admitted-clause-reach g c tells =
+    let before = (goal.at.returns-then-is_admitted-clause-reach g c).After-is_admitted in
     let reads = c.descend.ensures.reach (told g before tells) in
     let all : cond (admits c.args.self.now.filter c.args.key.now) c.args.self.now.levels 0 ≡ c.args.self.now.levels =
-    ap (λ b. cond b c.args.self.now.levels 0) (sym (admitted g before) ∙ c.if-not-is_admitted.false) in
+    ap (λ b. cond b c.args.self.now.levels 0) (sym (admitted g before) ∙ c.if-is_admitted.true) in
     omega (arith, reads, all)
