@@ -11,7 +11,10 @@ use Rattle.spl_port.specs.Page.{IndexRow}
 use Rattle.spl_page.proofs.PageTables.{children_are_below}
 use Rattle.spl_page.specs.Tables.{child_for, children, later}
 use Rattle.spl_branch.specs.Tree.{AreChildren, IsTree, first_key, table_under, tables_under}
-use Rattle.spl_branch.proofs.Joined.{left_table, message_at-append, none_before, none_from, right_table}
+use Rattle.spl_branch.proofs.GrowingLists.{all_weaker}
+use Rattle.spl_branch.proofs.GrowingTable.{table_back, table_front}
+use Rattle.spl_branch.proofs.GrowingTree.{first_key_front}
+use Rattle.spl_branch.proofs.Joined.{message_at-append, none_before, none_from}
 
 or_none : (message rest : Option Message) → rest ≡ None → option_or message rest ≡ message
 or_none None rest none = none
@@ -20,10 +23,6 @@ or_none (Some message) rest none = refl
 or_some : (message rest : Option Message) → message ≡ None → option_or message rest ≡ rest
 or_some None rest none = refl
 or_some (Some message) rest none = absurd cc
-
-first_append : (first second : Table) (key : List ℕ) → first_key first ≡ Some key → first_key (first ++ second) ≡ Some key
-first_append [] second key is = absurd cc
-first_append (entry ∷ first) second key is = is
 
 -- a child is found only where the key is not below the first key under the first child
 not_below_first : (below : Bool) (child further : ℕ) → cond below None (Some child) ≡ Some further → below ≡ false
@@ -40,7 +39,7 @@ module _ (under : ℕ → Table) where
   HasFirst row = first_key (under row.child) ≡ Some row.key
 
   first_under : (row : IndexRow) (rows : List IndexRow) → HasFirst row → first_key (all_under (row ∷ rows)) ≡ Some row.key
-  first_under row rows has = first_append (under row.child) (all_under rows) row.key has
+  first_under row rows has = first_key_front (under row.child) (all_under rows) row.key has
 
   -- what the table under the child that was found has for a key
   abbrev pub message_under : Option ℕ → List ℕ → Option Message
@@ -71,12 +70,12 @@ module _ (under : ℕ → Table) where
   message_below [] key has is = refl
   message_below (row ∷ rows) key has is =
       step row rows key (is_below key row.key) (child_for rows key) has.0 has.1 is refl refl
-      (message_below rows key has.1 (right_table (under row.child) (all_under rows) is))
+      (message_below rows key has.1 (table_back (under row.child) (all_under rows) is))
 
   -- each child has a table of its own
   pub each_table : (rows : List IndexRow) → IsTable (all_under rows) → AllByRecursion (λ row. IsTable (under row.child)) rows
   each_table [] is = tt
-  each_table (row ∷ rows) is = (left_table (under row.child) (all_under rows) is, each_table rows (right_table (under row.child) (all_under rows) is))
+  each_table (row ∷ rows) is = (table_front (under row.child) (all_under rows) is, each_table rows (table_back (under row.child) (all_under rows) is))
 
 -- the child that was found is one of the children
 pub record FoundIn (P : IndexRow → Type 0) (child : ℕ) : Type 0 where
@@ -97,10 +96,6 @@ found_child P [] key child all is = absurd cc
 found_child P (row ∷ rows) key child all is =
     found_step P row (is_below key row.key) (child_for rows key) child all.0 (λ further found. found_child P rows key further all.1 found) is
 
-weaker : (P Q : IndexRow → Type 0) → ((row : IndexRow) → P row → Q row) → (rows : List IndexRow) → AllByRecursion P rows → AllByRecursion Q rows
-weaker P Q then [] all = tt
-weaker P Q then (row ∷ rows) all = (then row all.0, weaker P Q then rows all.1)
-
 -- the child leads on to the key's message
 pub record Leads (height : ℕ) (pages : List Shown) (rows : List IndexRow) (key : List ℕ) (child : ℕ) : Type 0 where
   pub tree : IsTree height pages child
@@ -111,7 +106,7 @@ module _ (height : ℕ) (pages : List Shown) (rows : List IndexRow) (key : List 
   the_message : message_at (tables_under height pages rows) key ≡ message_under (table_under height pages) (child_for rows key) key
   the_message =
       message_below (table_under height pages) rows key
-      (weaker (λ row. IsTree height pages row.child × (first_key (table_under height pages row.child) ≡ Some row.key)) (HasFirst (table_under height pages)) (λ row is. is.1) rows are)
+      (all_weaker (λ row. IsTree height pages row.child × (first_key (table_under height pages row.child) ≡ Some row.key)) (HasFirst (table_under height pages)) rows (λ row is. is.1) are)
       is
 
   pub leads_nowhere : child_for rows key ≡ None → message_at (tables_under height pages rows) key ≡ None

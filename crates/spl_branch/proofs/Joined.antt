@@ -4,7 +4,6 @@ use Rattle.std.specs.declared.cmp.Ordering.TheVariants.{Less, Equal, Greater}
 use Rattle.std.specs.BTreeMap.{is_at}
 use Rattle.std.specs.Cmp.Lexicographic.{slice_cmp}
 use Rattle.std.specs.List.{AllByRecursion}
-use Rattle.std.specs.List.Sorted.{IsStrictlySortedBy}
 use Rattle.std.specs.Map.{keys_of}
 use Rattle.std.specs.Option.{option_or}
 use Rattle.std.specs.Ordering.{nat_cmp, is_eq, is_lt}
@@ -29,24 +28,11 @@ message_at-append [] second key = refl
 message_at-append (entry ∷ first) second key =
     found_or (is_at (slice_cmp nat_cmp key) entry.0) entry.1 (message_at first key) (message_at second key) (message_at (first ++ second) key) (message_at-append first second key)
 
--- what holds of each key of two tables holds of those of each
-all_left : (P : List ℕ → Type 0) (first second : Table) → AllByRecursion P (keys_of (first ++ second)) → AllByRecursion P (keys_of first)
-all_left P [] second all = tt
-all_left P (entry ∷ first) second all = (all.0, all_left P first second all.1)
-
+-- what holds of each key of two tables holds of the first key of the second
 all_first : (P : List ℕ → Type 0) (first second : Table) (key : List ℕ) → AllByRecursion P (keys_of (first ++ second)) → first_key second ≡ Some key → P key
 all_first P [] [] key all is = absurd cc
 all_first P [] (entry ∷ second) key all is = let same : entry.0 ≡ key = cc in rw (← same) all.0
 all_first P (entry ∷ first) second key all is = all_first P first second key all.1 is
-
-pub left_table : (first second : Table) → IsTable (first ++ second) → IsTable first
-unfolding IsStrictlySortedBy
-left_table [] second is = tt
-left_table (entry ∷ first) second is = (all_left (λ key. slice_cmp nat_cmp entry.0 key ≡ Less) first second is.0, left_table first second is.1)
-
-pub right_table : (first second : Table) → IsTable (first ++ second) → IsTable second
-right_table [] second is = is
-right_table (entry ∷ first) second is = right_table first second (sorted_tail (slice_cmp nat_cmp) entry.0 (keys_of (first ++ second)) is)
 
 -- a key that is not below one is not one that is below it
 not_at : (key entry further : List ℕ) (order : Ordering) → slice_cmp nat_cmp key entry ≡ order → slice_cmp nat_cmp entry further ≡ Less → is_below key further ≡ false

@@ -8,6 +8,7 @@ use Rattle.std.proofs.lemmas.Option.{slice_get-map, slice_get_read, slice_get_wi
 use Rattle.spl_port.specs.Seal.{Sealed, page_count, place}
 use Rattle.spl_branch.specs.Branch.{Branch, IsBranch}
 use Rattle.spl_branch.specs.Pages.{AreParts, page_total}
+use Rattle.spl_branch.proofs.GrowingParts.{parts_most}
 
 pub slice_get-append_left : {X : Type 0} (xs ys : List X) (i : ℕ) → i < length xs → slice_get (xs ++ ys) i ≡ slice_get xs i
 slice_get-append_left [] ys i within = absurd (omega arith)
@@ -114,18 +115,6 @@ pub page_total_is : (number : ℕ) (extents : List ℕ) (parts : List Sealed) (n
     → length parts ≡ suc n → slice_get parts n ≡ Some last → page_total parts ≡ n * 32 + page_count last
 page_total_is number extents parts n last are len at = total-32 (λ part. part.leaves) parts n last (are-32 number extents parts are) len at
 
--- there is an extent for each part
-pub parts_within : (number : ℕ) (extents : List ℕ) (parts : List Sealed) → AreParts number extents parts → length parts ≤ length extents
-parts_within number extents parts are =
-    elim (cases_lt 0 (length parts)) [
-      | inl some ↦
-          let last = slice_get_some parts (length parts - 1) (omega arith) in
-          let at = (are.each (length parts - 1) last.0 last.1).extent in
-          let within = slice_get_within extents (length parts - 1) last.0.extent at in
-          omega arith
-      | inr none ↦ omega arith
-    ]
-
 -- there is a page, so there is a part
 pub some_pages : (branch : Branch) → IsBranch branch → 0 < page_total branch.parts
 some_pages branch is =
@@ -153,7 +142,7 @@ seal_part means seals i seal within is = slice_get-map means seals i ∙ ap (opt
 pub seals_within : {S : Type 0} (means : S → Sealed) (branch : Branch) (seals : List S) → IsBranch branch → branch.parts ≡ map means seals → length seals ≤ 65536
 seals_within means branch seals is parts =
     let len : length branch.parts ≡ length seals = ap length parts ∙ length-map seals means in
-    omega (arith, parts_within branch.number branch.extents branch.parts is.parts, is.extents)
+    omega (arith, parts_most branch.number branch.extents branch.parts is.parts, is.extents)
 
 -- what holds of a branch that is made of these seals, the last of which is at place n
 pub record Counted (branch : Branch) (n pages : ℕ) : Type 0 where
@@ -168,7 +157,7 @@ counted means branch seals n pages seal is parts last read count =
     let at : slice_get branch.parts n ≡ Some (means seal) = ap (λ ps. slice_get ps n) parts ∙ seal_part means seals n seal (omega arith) read in
     let total = page_total_is branch.number branch.extents branch.parts n (means seal) is.parts (omega arith) at in
     let most = (is.parts.each n (means seal) at).most in
-    let within = parts_within branch.number branch.extents branch.parts is.parts in
+    let within = parts_most branch.number branch.extents branch.parts is.parts in
     record { most = omega (arith, is.extents); total = omega arith }
 
 -- ---- where a page stands
