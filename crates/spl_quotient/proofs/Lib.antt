@@ -6,3 +6,4 @@ pub mod Laying
 pub mod Turning
 pub mod Members
 pub mod Bits
+pub mod Hashes

@@ -10,6 +10,10 @@ fnv_step hash byte = bit_xor hash byte * PRIME % 2 ^ 64
 unfoldable pub fnv_of : List ℕ → ℕ
 fnv_of bytes = fold fnv_step OFFSET_BASIS bytes
 
+-- the top q + 12 bits of a hash
+abbrev pub print_of : ℕ → ℕ → ℕ
+print_of q hash = hash / 2 ^ (52 - q)
+
 -- the top q + 12 bits of the key's hash
 unfoldable pub fingerprint_of : ℕ → List ℕ → ℕ
-fingerprint_of q key = fnv_of key / 2 ^ (52 - q)
+fingerprint_of q key = print_of q (fnv_of key)

@@ -1,13 +1,13 @@
-ghost use Rattle.std.specs.Prelude.{◌≡◌, ℕ, ◌+◌, ◌*◌, ◌/◌, ◌^◌, ◌≤◌, ◌<◌, ◌↔◌, length, map, All, Contains, IsTrue, IfOk, slice_index};
+ghost use Rattle.std.specs.Prelude.{◌≡◌, ℕ, ◌+◌, ◌*◌, ◌/◌, ◌^◌, ◌≤◌, ◌<◌, ◌↔◌, length, map, All, Contains, IsTrue, IfOk, slice_index, vec_len};
 ghost use Rattle.std.specs.List.Sorted.{IsStrictlyIncreasing};
-ghost use Rattle.spl_quotient.specs.Fnv.{fingerprint_of};
+ghost use Rattle.spl_quotient.specs.Fnv.{print_of, fingerprint_of};
 ghost use Rattle.spl_quotient.specs.Exponent.{IsExponent};
 ghost use Rattle.spl_quotient.specs.Table.{IsLaid, prints_in};
 
 use crate::find::has;
 use crate::hash::fingerprint;
 use crate::lay::lay;
-use crate::prints::{farthest_ahead, prints_of};
+use crate::prints::{farthest_ahead, in_order, prints_of_hashes, prints_of_keys};
 use crate::table::Table;
 use spl_message::{Key, NoMemory};
 use std::alloc::Global;
@@ -45,9 +45,20 @@ impl Filter {
         ensures keys { IfOk result (λ filter. All (λ key. Contains filter.prints (fingerprint_of filter.q key)) keys.now) }
     {
         let q = exponent_of(keys.len());
-        let prints = prints_of(alloc, keys, q)?;
-        let table = table_of(alloc, prints.as_slice(), q)?;
-        Ok(Filter { table, q })
+        let prints = prints_of_keys(alloc, keys, q)?;
+        filter_of(alloc, prints, q)
+    }
+
+    /// The filter of the keys with these hashes, which may come in any order, and more than once.
+    pub fn of_hashes(alloc: Global, hashes: &[u64]) -> Result<Filter, NoMemory>
+        requires { length hashes.now ≤ 2 ^ 51 }
+        ensures exponent { IfOk result (λ filter. IsExponent (length hashes.now) filter.q) }
+        ensures prints { IfOk result (λ filter. (print : ℕ)
+            → Contains filter.prints print ↔ Contains (map (print_of filter.q) hashes.now) print) }
+    {
+        let q = exponent_of(hashes.len());
+        let prints = prints_of_hashes(alloc, hashes, q)?;
+        filter_of(alloc, prints, q)
     }
 
     /// The exponent: the filter has 2^q slots, and its fingerprints have q + 12 bits.
@@ -66,6 +77,21 @@ impl Filter {
         let home = self.table.position_of((print / 4096) as usize);
         has(&self.table, home, (print % 4096) as u16)
     }
+}
+
+/// The filter of these fingerprints.
+fn filter_of(alloc: Global, prints: Vec<u64>, q: u32) -> Result<Filter, NoMemory>
+    requires least { 6 ≤ q }
+    requires most { q ≤ 52 }
+    requires bits { All (λ print. print < 2 ^ (q + 12)) prints.items }
+    requires count { vec_len prints ≤ 2 ^ q }
+    ensures exponent { IfOk result (λ filter. filter.q ≡ q) }
+    ensures prints { IfOk result (λ filter. (print : ℕ)
+        → Contains filter.prints print ↔ Contains prints.items print) }
+{
+    let prints = in_order(prints);
+    let table = table_of(alloc, prints.as_slice(), q)?;
+    Ok(Filter { table, q })
 }
 
 /// The exponent of a filter over so many keys.

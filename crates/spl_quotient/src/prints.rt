@@ -1,33 +1,39 @@
 //! The fingerprints that a filter is built of.
 ghost use Rattle.std.specs.Prelude.{◌≡◌, ℕ, ◌+◌, ◌/◌, ◌^◌, ◌≤◌, ◌<◌, ◌↔◌, length, map, All, Contains, IfOk, slice_index, vec_len};
 ghost use Rattle.std.specs.List.Sorted.{IsStrictlyIncreasing};
-ghost use Rattle.spl_quotient.specs.Fnv.{fingerprint_of};
+ghost use Rattle.spl_quotient.specs.Fnv.{print_of, fingerprint_of};
 
-use crate::hash::fingerprint;
+use crate::hash::{fingerprint, top_bits};
 use spl_message::{Key, NoMemory};
 use std::alloc::Global;
 
-/// The fingerprints of the keys in order, each once.
-pub(crate) fn prints_of(alloc: Global, keys: &[Key], q: u32) -> Result<Vec<u64>, NoMemory>
-    requires { q ≤ 52 }
-    ensures sorted { IfOk result (λ prints. IsStrictlyIncreasing prints.items) }
-    ensures bits { IfOk result (λ prints. All (λ print. print < 2 ^ (q + 12)) prints.items) }
-    ensures count { IfOk result (λ prints. vec_len prints ≤ length keys.now) }
-    ensures members { IfOk result (λ prints. (print : ℕ)
-        → Contains prints.items print ↔ Contains (map (fingerprint_of q) keys.now) print) }
-{
-    let mut prints = all_prints(alloc, keys, q)?;
-    prints.sort_unstable();
-    prints.dedup();
-    Ok(prints)
-}
-
-fn all_prints(alloc: Global, keys: &[Key], q: u32) -> Result<Vec<u64>, NoMemory>
+/// The fingerprints of the keys, in the order of the keys.
+pub(crate) fn prints_of_keys(alloc: Global, keys: &[Key], q: u32) -> Result<Vec<u64>, NoMemory>
     requires { q ≤ 52 }
     ensures { IfOk result (λ prints. prints.items ≡ map (fingerprint_of q) keys.now) }
 {
     let prints = keys.iter().map(|key| fingerprint(key, q)).collect(alloc)?;
     Ok(prints)
+}
+
+/// The fingerprints of the keys with these hashes, in the order of the hashes.
+pub(crate) fn prints_of_hashes(alloc: Global, hashes: &[u64], q: u32) -> Result<Vec<u64>, NoMemory>
+    requires { q ≤ 52 }
+    ensures { IfOk result (λ prints. prints.items ≡ map (print_of q) hashes.now) }
+{
+    let prints = hashes.iter().map(|hash| top_bits(*hash, q)).collect(alloc)?;
+    Ok(prints)
+}
+
+/// The fingerprints in order, each once.
+pub(crate) fn in_order(mut prints: Vec<u64>) -> Vec<u64>
+    ensures sorted { IsStrictlyIncreasing result.items }
+    ensures count { vec_len result ≤ vec_len prints }
+    ensures members { (print : ℕ) → Contains result.items print ↔ Contains prints.items print }
+{
+    prints.sort_unstable();
+    prints.dedup();
+    prints
 }
 
 /// The place of the fingerprint whose quotient is the farthest ahead of its place. No run of the fingerprints before

@@ -1,5 +1,6 @@
 use crate::{Filter, fingerprint, fnv};
 use spl_message::Key;
+use std::ops::Range;
 use std::process::Abort;
 
 fn key(rt: &impl Abort, bytes: &[u8]) -> Key {
@@ -47,4 +48,37 @@ fn the_exponent_grows_with_the_keys(rt: HostRuntime) {
             assert!(rt; filter.admits(key));
         }
     }
+}
+
+/// A key for each number, with bytes that differ all over.
+fn spread_key(rt: &impl Abort, number: u64) -> Key {
+    let spread = number.wrapping_mul(0x9e3779b97f4a7c15);
+    key(rt, &spread.to_le_bytes())
+}
+
+/// How many of the keys of these numbers the filter admits.
+fn admitted(rt: &impl Abort, filter: &Filter, numbers: Range<u64>) -> u32 {
+    let mut admitted = 0u32;
+    for number in numbers {
+        if filter.admits(&spread_key(rt, number)) {
+            admitted = admitted.saturating_add(1);
+        }
+    }
+    admitted
+}
+
+// With 30 bits a fingerprint, 200,000 absent keys share one with some of 100,000 keys about 19 times.
+#[test]
+fn few_absent_keys_are_admitted(rt: HostRuntime) {
+    let mut hashes = Vec::new(rt.alloc());
+    for number in 0..100_000 {
+        let hash = fnv(spread_key(&rt, number).bytes());
+        hashes.push(hash).expect(&rt, "memory");
+    }
+    assert_eq!(rt; hashes.len(), 100_000);
+    let filter = Filter::of_hashes(rt.alloc(), hashes.as_slice()).expect(&rt, "memory");
+    assert_eq!(rt; filter.q(), 18);
+    assert_eq!(rt; admitted(&rt, &filter, 0..100_000), 100_000);
+    let absent = admitted(&rt, &filter, 100_000..300_000);
+    assert!(rt; absent < 60, "{absent} absent keys are admitted");
 }

@@ -1,25 +1,19 @@
-use Rattle.std.proofs.Common.{get_or, subst, sym}
-use Rattle.std.specs.Prelude.{Contains}
-use Rattle.std.proofs.lemmas.List.{length-map, get_or-map}
+use Rattle.std.proofs.Common.{ℕ, ◌↔◌, map}
+use Rattle.std.specs.Prelude.{All, Contains}
+use Rattle.std.proofs.lemmas.Result.{IfOk-weaker}
 use Rattle.spl_quotient.specs.Fnv.{fingerprint_of}
+use Rattle.spl_quotient.proofs.Hashes.{key_bits, cut_from, each_has}
 use Rattle.spl_quotient.proofs.filter.Filter.build.Goals as goal
 
+pub filter_of-requires-clause-bits : goal.filter_of-requires-clause-bits
+filter_of-requires-clause-bits c = key_bits c.exponent_of-q.result c.exponent_of-q.ensures.most c.args.keys.now c.in_ok-prints.prints.items c.in_ok-prints.ensures
+
 pub returns-clause-prints : goal.returns-clause-prints
-returns-clause-prints c = λ print. (
-  λ shown.
-      let built = (c.in_ok-table.ensures.prints print).0 shown in
-      (c.in_ok-prints.ensures.members print).0 (subst (λ items. Contains items print) c.as_slice.ensures.value built),
-  λ member.
-      let built = (c.in_ok-prints.ensures.members print).1 member in
-      (c.in_ok-table.ensures.prints print).1 (subst (λ items. Contains items print) (sym c.as_slice.ensures.value) built),
-)
+returns-clause-prints c =
+    cut_from fingerprint_of c.args.keys.now c.exponent_of-q.result c.in_ok-prints.prints.items c.filter_of.result c.in_ok-prints.ensures c.filter_of.ensures.exponent c.filter_of.ensures.prints
 
 pub returns-clause-keys : goal.returns-clause-keys
-returns-clause-keys c = λ k d within.
-    let print = fingerprint_of c.exponent_of-q.result in
-    let keys = c.args.keys.now in
-    (returns-clause-prints c (print (get_or keys k d))).1 (
-      k,
-      rw (length-map keys print) within,
-      get_or-map print keys k d (print (get_or keys k d)) within,
-    )
+returns-clause-keys c = IfOk-weaker c.filter_of.result (λ filter. (print : ℕ) → Contains filter.prints print ↔ Contains (map (fingerprint_of filter.q) c.args.keys.now) print)
+    (λ filter. All (λ key. Contains filter.prints (fingerprint_of filter.q key)) c.args.keys.now)
+    (λ filter. each_has (fingerprint_of filter.q) c.args.keys.now filter.prints)
+    (returns-clause-prints c)
