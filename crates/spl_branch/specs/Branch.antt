@@ -1,5 +1,5 @@
 -- A branch, as contracts see it, and what holds of it.
-use Rattle.std.specs.Prelude.{◌≡◌, ℕ, ◌-◌, ◌<◌, ◌≤◌, ◌↔◌, ◌++◌, Bool, true, false, if◌then◌else◌, List, [], length, map, flat_map, replicate, Contains}
+use Rattle.std.specs.Prelude.{◌≡◌, ℕ, ◌-◌, ◌<◌, ◌≤◌, ◌↔◌, ◌++◌, true, false, if◌then◌else◌, List, [], length, map, flat_map, replicate, Contains}
 use Rattle.std.specs.Map.{keys_of}
 use Rattle.spl_message.specs.Table.{Table, IsTable, cuts_of}
 use Rattle.spl_page.specs.Tables.{leaf_table}

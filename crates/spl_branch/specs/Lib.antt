@@ -1,4 +1,5 @@
 pub mod Branch
+pub mod Last
 pub mod Pages
 pub mod Reading
 pub mod Tree

@@ -1,5 +1,5 @@
 -- The pages of a branch: those of its sealed parts, one part after the other. A part is a draft or a seal of one extent.
-use Rattle.std.specs.Prelude.{◌≡◌, ℕ, ◌+◌, ◌*◌, ◌<◌, ◌≤◌, Bool, IsTrue, List, length, map, flat_map, Option, Some, None, IfSome, is_some, option_to_list, unwrap_or, []}
+use Rattle.std.specs.Prelude.{◌≡◌, ℕ, ◌+◌, ◌*◌, ◌<◌, ◌≤◌, Bool, IsTrue, List, length, map, flat_map, Some, IfSome, is_some, unwrap_or, []}
 use Rattle.std.specs.List.{enumerate_from, slice_get}
 use Rattle.spl_port.specs.Counts.{Shown}
 use Rattle.spl_port.specs.Seal.{Sealed, page_count, place}

@@ -1,5 +1,5 @@
 -- What looking a key up in a branch reads, and why it may have no answer.
-use Rattle.std.specs.Prelude.{◌≡◌, ℕ, ◌/◌, ◌%◌, ◌==◌, ◌≤◌, ◌<◌, if◌then◌else◌, Bool, List, Option, Some}
+use Rattle.std.specs.Prelude.{◌≡◌, ℕ, ◌/◌, ◌%◌, ◌==◌, ◌≤◌, ◌<◌, if◌then◌else◌, Bool, List, Some}
 use Rattle.std.specs.List.{list_any, slice_get}
 use Rattle.std.specs.Option.{IsSomeAnd}
 use Rattle.spl_port.specs.declared.at.At.{At}

@@ -1,9 +1,8 @@
 -- The tree that the pages of a branch make: leaf pages at the bottom, and over them index pages, each of which names the pages
 -- of its children with the first key under each.
-use Rattle.std.specs.Prelude.{◌≡◌, ℕ, zero, suc, Bool, true, false, if◌then◌else◌, List, [], ◌∷◌, map, flat_map, Option, Some, None}
+use Rattle.std.specs.Prelude.{◌≡◌, ℕ, zero, suc, true, false, List, [], ◌∷◌, flat_map, Option, Some, None}
 use Rattle.std.specs.List.{slice_get, AllByRecursion}
-use Rattle.std.specs.Map.{keys_of}
-use Rattle.std.specs.Option.{IsSomeAnd, option_map}
+use Rattle.std.specs.Option.{IsSomeAnd}
 use Rattle.spl_message.specs.Table.{Table}
 use Rattle.spl_port.specs.Counts.{Shown}
 use Rattle.spl_port.specs.Page.{IndexRow, leaf_fault, index_fault}

@@ -1,11 +1,14 @@
-ghost use Rattle.std.specs.Prelude.{◌≡◌, ℕ, ◌≤◌, List, map, length};
-ghost use Rattle.spl_branch.specs.Branch.{IsBranch, table_of};
-ghost use Rattle.spl_branch.specs.Reading.{reach_of};
+ghost use Rattle.std.specs.Prelude.{◌≡◌};
+ghost use Rattle.spl_branch.specs.Branch.{IsBranch, shown, table_of};
+ghost use Rattle.spl_branch.specs.Reading.{admits, reach_of};
 
 use spl_message::{Content, Key};
 use spl_port::Seal;
 use spl_quotient::Filter;
 use std::marker::Model;
+
+/// How many pages an extent has.
+const EXTENT_PAGES: u32 = 32;
 
 /// What a branch is made of, as its builder has it.
 #[derive(Drop)]
@@ -46,4 +49,72 @@ impl<S: Seal> Model for Branch<S> {
     ghost view = { λ b. shown S.means b.parts };
 
     ghost invariant = { λ b. IsBranch (shown S.means b.parts) × (b.pages ≡ page_total (map S.means b.parts.seals.items)) };
+}
+
+impl<S: Seal> Branch<S> {
+    /// The branch of these parts.
+    pub fn new(parts: Parts<S>) -> Branch<S>
+        requires { IsBranch (shown S.means parts) }
+        ensures { result ≡ shown S.means parts }
+    {
+        let full = parts.seals.len() - 1;
+        let pages = full as u32 * EXTENT_PAGES + parts.seals[full].pages();
+        Branch { parts, pages }
+    }
+
+    /// How many levels of pages it has: one, if it is a single leaf page.
+    pub fn levels(&self) -> u32
+        ensures { result ≡ self.now.levels }
+    {
+        self.parts.levels
+    }
+}
+
+/// Whether the filter admits the key. Takes no memory.
+fn is_admitted(filter: &Filter, key: &Key) -> bool
+    ensures { result ≡ admits filter.now key.now }
+{
+    filter.admits(key)
+}
+
+impl<S: Seal> Content for Branch<S> {
+    ghost TELLS = { S.TELLS };
+
+    const TELLS: bool = S::TELLS;
+
+    ghost table = { table_of };
+
+    ghost number = { λ branch. branch.number };
+
+    ghost extents = { λ branch. branch.extents };
+
+    ghost entries = { λ branch. branch.entries };
+
+    ghost cuts = { λ branch. branch.cuts };
+
+    ghost reach = { reach_of };
+
+    fn number(&self) -> u64 {
+        self.parts.number
+    }
+
+    fn extents(&self) -> &[u32] {
+        self.parts.extents.as_slice()
+    }
+
+    fn entries(&self) -> u64 {
+        self.parts.entries
+    }
+
+    fn cuts(&self) -> &[Key] {
+        self.parts.cuts.as_slice()
+    }
+
+    fn reach(&self, key: &Key) -> u32 {
+        if is_admitted(&self.parts.filter, key) {
+            self.parts.levels
+        } else {
+            0
+        }
+    }
 }
