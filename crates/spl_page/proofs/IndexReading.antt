@@ -6,10 +6,10 @@ use Rattle.std.proofs.lemmas.List.{drop-drop, length-drop, map_push}
 use Rattle.std.proofs.lemmas.List.Sums.{sum_by_push}
 use Rattle.spl_port.specs.declared.at.At.{At}
 use Rattle.spl_port.specs.declared.damaged.Why.{Why}
-use Rattle.spl_port.specs.declared.damaged.Why.TheVariants.{Entry, Order, Rest}
+use Rattle.spl_port.specs.declared.damaged.Why.TheVariants.{Entry}
 use Rattle.spl_port.specs.Page.{IndexRow, IsIndexPage, index_fault, index_row, index_row_length, index_rows, is_rising, page_fault, row_count, rows_fault, rows_of}
 use Rattle.spl_page.specs.declared.index_entry.IndexEntry.{IndexEntry}
-use Rattle.spl_page.specs.Frame.{head_fault}
+use Rattle.spl_page.specs.Frame.{found_fault, head_fault}
 use Rattle.spl_page.specs.IndexPage.{IsFound, first_keys, index_entry_length, index_length, index_row_of, index_rows_of}
 use Rattle.spl_page.proofs.FrameLemmas.{kind_fault_is}
 use Rattle.spl_page.proofs.Rows.{behind, ends, goes_on, starts, stops, whole}
@@ -82,14 +82,6 @@ keys_are : (entries : List IndexEntry) → map key_of (index_rows_of entries) �
 keys_are [] = refl
 keys_are (entry ∷ entries) = ap (λ keys. entry.first ∷ keys) (keys_are entries)
 
--- the reason against entries that are there
-abbrev pub found_fault : Bool → Bool → Option Why
-found_fault rising zeros = cond (not rising) (Some Order) (cond (not zeros) (Some Rest) None)
-
-rows_fault_is : (entries : List IndexEntry) (rest : List ℕ)
-    → rows_fault key_of (Some (whole (index_rows_of entries) rest)) ≡ found_fault (is_rising (first_keys entries)) (list_all (λ byte. eqb byte 0) rest)
-rows_fault_is entries rest = ap (λ keys. found_fault (is_rising keys) (list_all (λ byte. eqb byte 0) rest)) (keys_are entries)
-
 pub head_refuses : (at : At) (bytes : List ℕ) (why : Why) → at.leaf ≡ false → Some why ≡ head_fault 73 at bytes → page_fault at bytes ≡ Some why
 head_refuses at bytes why index head = page_fault_is at bytes index ∙ ap (λ o. option_or o (rows_fault key_of (index_rows at.page bytes))) (sym head)
 
@@ -99,25 +91,39 @@ entry_refuses at bytes index head rows =
     ∙ ap (λ o. option_or o (rows_fault key_of (index_rows at.page bytes))) (sym head)
     ∙ ap (rows_fault key_of) rows
 
-pub found_refuses : (at : At) (bytes : List ℕ) (entries : List IndexEntry) (rises : Bool) (rest : List ℕ) → at.leaf ≡ false → None ≡ head_fault 73 at bytes
-    → index_rows at.page bytes ≡ Some (whole (index_rows_of entries) rest) → rises ≡ is_rising (first_keys entries)
-    → page_fault at bytes ≡ found_fault rises (list_all (λ byte. eqb byte 0) rest)
-found_refuses at bytes entries rises rest index head rows rising =
+-- the reason against entries that are there
+pub rows_refuse : (at : At) (bytes : List ℕ) (rows : List IndexRow) (rises : Bool) (rest : List ℕ) → at.leaf ≡ false → None ≡ head_fault 73 at bytes
+    → index_rows at.page bytes ≡ Some (whole rows rest) → rises ≡ is_rising (map key_of rows)
+    → page_fault at bytes ≡ found_fault rises rest
+rows_refuse at bytes rows rises rest index head are rising =
     page_fault_is at bytes index
     ∙ ap (λ o. option_or o (rows_fault key_of (index_rows at.page bytes))) (sym head)
-    ∙ ap (rows_fault key_of) rows
-    ∙ rows_fault_is entries rest
-    ∙ ap (λ (b : Bool). found_fault b (list_all (λ byte. eqb byte 0) rest)) (sym rising)
+    ∙ ap (rows_fault key_of) are
+    ∙ ap (λ (b : Bool). found_fault b rest) (sym rising)
+
+pub found_refuses : (at : At) (bytes : List ℕ) (entries : List IndexEntry) (rises : Bool) (rest : List ℕ) → at.leaf ≡ false → None ≡ head_fault 73 at bytes
+    → index_rows at.page bytes ≡ Some (whole (index_rows_of entries) rest) → rises ≡ is_rising (first_keys entries)
+    → page_fault at bytes ≡ found_fault rises rest
+found_refuses at bytes entries rises rest index head are rising =
+    rows_refuse at bytes (index_rows_of entries) rises rest index head are (rising ∙ ap is_rising (sym (keys_are entries)))
+
+-- of the kind that is wanted there is one reason
+pub index_fault_is : (at : At) (bytes : List ℕ) → at.leaf ≡ false → index_fault at bytes ≡ page_fault at bytes
+unfolding page_fault
+index_fault_is at bytes index = rw index refl
+
+pub is_page : (at : At) (bytes : List ℕ) (entries : List IndexEntry) (rises : Bool) (rest : List ℕ) → at.leaf ≡ false → None ≡ head_fault 73 at bytes
+    → index_rows at.page bytes ≡ Some (whole (index_rows_of entries) rest) → rises ≡ is_rising (first_keys entries) → None ≡ found_fault rises rest
+    → IsIndexPage at bytes (index_rows_of entries)
+is_page at bytes entries rises rest index head are rising none = record {
+  sound = index_fault_is at bytes index ∙ found_refuses at bytes entries rises rest index head are rising ∙ sym none;
+  entries = ap (option_map (λ found. found.rows)) are;
+}
 
 pub found_passes : (at : At) (bytes : List ℕ) (entries : List IndexEntry) (rises : Bool) (rest : List ℕ) → at.leaf ≡ false → None ≡ head_fault 73 at bytes
     → index_rows at.page bytes ≡ Some (whole (index_rows_of entries) rest) → rises ≡ is_rising (first_keys entries)
     → rises ≡ true → list_all (λ byte. eqb byte 0) rest ≡ true
     → IsIndexPage at bytes (index_rows_of entries)
-unfolding index_fault
-found_passes at bytes entries rises rest index head rows rising true-is zeros =
-    let is = found_refuses at bytes entries rises rest index head rows rising in
-    let none : page_fault at bytes ≡ None = is ∙ ap (λ (b : Bool). found_fault b (list_all (λ byte. eqb byte 0) rest)) true-is ∙ ap (found_fault true) zeros in
-    record {
-      sound = kind_fault_is 73 key_of (index_rows at.page bytes) at bytes ∙ sym (page_fault_is at bytes index) ∙ none;
-      entries = ap (option_map (λ found. found.rows)) rows;
-    }
+found_passes at bytes entries rises rest index head are rising true-is zeros =
+    let none : found_fault rises rest ≡ None = rw (true-is, zeros) refl in
+    is_page at bytes entries rises rest index head are rising (sym none)

@@ -92,7 +92,7 @@ rest_back entry rest is =
     ap (λ (n : ℕ). drop (4 + length entry.key + n) (leaf_entry_text entry ++ rest)) (value_back entry rest is)
     ∙ drop_at (leaf_entry_text entry) rest (4 + length entry.key + length value) len
 
-are_read_back : (entries : List LeafEntry) → AllByRecursion IsEntry entries
+pub are_read_back : (entries : List LeafEntry) → AllByRecursion IsEntry entries
     → AllByRecursion (IsReadBack leaf_row leaf_row_length leaf_row_of leaf_entry_text) entries
 are_read_back [] are = tt
 are_read_back (entry ∷ entries) are = (

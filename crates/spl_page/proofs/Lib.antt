@@ -1,8 +1,14 @@
 pub mod FrameLemmas
 pub mod IndexReading
+pub mod IndexSearching
 pub mod IndexWriting
 pub mod LeafReading
+pub mod LeafSearching
+pub mod LeafTables
 pub mod LeafWriting
 pub mod Numbers
+pub mod PageTables
+pub mod PageText
 pub mod Rising
 pub mod Rows
+pub mod Searching

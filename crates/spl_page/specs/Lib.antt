@@ -1,5 +1,7 @@
 pub mod Frame
 pub mod IndexPage
 pub mod LeafPage
+pub mod LeafWriter
 pub mod PageFault
+pub mod Slots
 pub mod Tables

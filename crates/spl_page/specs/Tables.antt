@@ -1,10 +1,8 @@
 -- What a page says to the layers above: a leaf page is a table, and an index page is a list of children.
 use Rattle.std.specs.Prelude.{ℕ, ◌+◌, ◌==◌, if◌then◌else◌, List, [], ◌∷◌, map, sum_by, Option, Some, None}
-use Rattle.std.specs.List.{slice_get}
-use Rattle.std.specs.Map.{keys_of}
 use Rattle.spl_message.specs.declared.message.Message.{Message}
 use Rattle.spl_message.specs.declared.message.Message.TheVariants.{Insert, Delete, Update}
-use Rattle.spl_message.specs.Key.{AreRising, is_below}
+use Rattle.spl_message.specs.Key.{is_below}
 use Rattle.spl_message.specs.Table.{Table}
 use Rattle.spl_port.specs.Page.{LeafRow, IndexRow, Rows, leaf_rows, index_rows}
 use Rattle.spl_page.specs.IndexPage.{index_entry_length}

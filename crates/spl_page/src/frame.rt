@@ -2,13 +2,16 @@
 ghost use Rattle.std.specs.Prelude.{◌≡◌, ◌<◌, ◌≤◌, ◌^◌, ◌==◌, length};
 ghost use Rattle.std.specs.List.{list_all};
 ghost use Rattle.spl_port.specs.Page.{number_at, row_count};
-ghost use Rattle.spl_page.specs.Frame.{head_fault, head_text};
+ghost use Rattle.spl_page.specs.Frame.{found_fault, head_fault, head_text};
 
 use byteorder::{BigEndian, ByteOrder};
 use spl_port::{At, Why};
 
 /// How many bytes stand before the entries.
 pub(crate) const HEAD_BYTES: usize = 16;
+
+/// The greatest number of bytes of a key.
+pub(crate) const KEY_LIMIT: usize = 64;
 
 /// The format of the pages.
 const FORMAT: u8 = 1;
@@ -67,8 +70,21 @@ pub(crate) fn write_head(kind: u8, count: u16, at: At) -> [u8; HEAD_BYTES]
     head
 }
 
+/// The first reason against entries that are there, whose keys rise or do not, with these bytes behind them.
+pub(crate) fn rows_fault(rising: bool, rest: &[u8]) -> Option<Why>
+    ensures { result ≡ found_fault rising rest.now }
+{
+    if !rising {
+        return Some(Why::Order);
+    }
+    if !is_zeros(rest) {
+        return Some(Why::Rest);
+    }
+    None
+}
+
 /// Whether there is nothing behind the entries.
-pub(crate) fn is_zeros(bytes: &[u8]) -> bool
+fn is_zeros(bytes: &[u8]) -> bool
     ensures { result ≡ list_all (λ byte. byte == 0) bytes.now }
 {
     bytes.iter().all(|byte| *byte == 0)

@@ -5,7 +5,8 @@ ghost use Rattle.spl_port.specs.Page.{IsIndexPage, index_row, index_row_length, 
 ghost use Rattle.spl_page.specs.PageFault.{IsFaultOf};
 ghost use Rattle.spl_page.specs.IndexPage.{IsFound, first_keys, index_entry_length, index_entry_text, index_length, index_row_of, index_rows_of};
 
-use crate::frame::{HEAD_BYTES, entry_count, head_fault, is_zeros, write_head};
+use crate::frame::{HEAD_BYTES, entry_count, head_fault, rows_fault, write_head};
+use crate::index_slot::{ENTRY_HEAD, IndexSlot};
 use crate::{IndexEntry, PageFault};
 use byteorder::{BigEndian, ByteOrder};
 use spl_message::{Key, NoMemory};
@@ -14,10 +15,7 @@ use std::alloc::Global;
 use std::marker::Model;
 
 /// The first byte of an index page.
-const KIND: u8 = 0x49;
-
-/// How many bytes of an entry stand before its key.
-const ENTRY_HEAD: usize = 5;
+pub(crate) const KIND: u8 = 0x49;
 
 /// A list of children with their first keys, which rise. In a clause it is that list.
 #[derive(Debug, Drop)]
@@ -110,12 +108,7 @@ impl IndexPage {
             let why = Why::Entry;
             return Err(PageFault::Damaged(Damaged { at, why }));
         };
-        if !found.rising {
-            let why = Why::Order;
-            return Err(PageFault::Damaged(Damaged { at, why }));
-        }
-        if !is_zeros(&bytes[found.end..]) {
-            let why = Why::Rest;
+        if let Some(why) = rows_fault(found.rising, &bytes[found.end..]) {
             return Err(PageFault::Damaged(Damaged { at, why }));
         }
         Ok(IndexPage {
@@ -165,17 +158,11 @@ fn read_entry(bytes: &[u8], page: u32) -> Option<IndexEntry>
     ensures length { IfSome result (λ entry. index_row_length bytes.now ≡ index_entry_length entry.first) }
     ensures within { IfSome result (λ entry. index_entry_length entry.first ≤ length bytes.now) }
 {
-    if bytes.len() < ENTRY_HEAD {
-        return None;
-    }
-    let child = BigEndian::read_u32(bytes);
-    let end = ENTRY_HEAD + bytes[4] as usize;
-    if child >= page || bytes.len() < end {
-        return None;
-    }
-    match Key::read(&bytes[ENTRY_HEAD..end]) {
+    let slot = IndexSlot::read(bytes, page)?;
+    let child = slot.child;
+    match Key::read(slot.key) {
         Ok(first) => Some(IndexEntry { child, first }),
-        Err(_) => None,
+        Err(_) => unreachable!(),
     }
 }
 

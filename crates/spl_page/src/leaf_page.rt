@@ -4,19 +4,17 @@ ghost use Rattle.spl_port.specs.Page.{IsLeafPage, is_rising, leaf_row, leaf_row_
 ghost use Rattle.spl_page.specs.PageFault.{IsFaultOf};
 ghost use Rattle.spl_page.specs.LeafPage.{IsEntry, IsFound, is_message, kind_of, leaf_entry_length, leaf_entry_text, leaf_keys, leaf_length, leaf_row_of, leaf_rows_of, value_of};
 
-use crate::frame::{HEAD_BYTES, entry_count, head_fault, is_zeros, write_head};
+use crate::frame::{HEAD_BYTES, entry_count, head_fault, rows_fault, write_head};
+use crate::leaf_slot::{ENTRY_HEAD, LeafSlot};
 use crate::{LeafEntry, PageFault};
 use byteorder::{BigEndian, ByteOrder};
-use spl_message::{Key, Message, NoMemory, Value, ValueFault};
+use spl_message::{Key, Message, NoMemory};
 use spl_port::{At, Damaged, PAGE_BYTES, PageBytes, Why};
 use std::alloc::Global;
 use std::marker::Model;
 
 /// The first byte of a leaf page.
-const KIND: u8 = 0x4C;
-
-/// How many bytes of an entry stand before its key.
-const ENTRY_HEAD: usize = 4;
+pub(crate) const KIND: u8 = 0x4C;
 
 /// A list of keys with their messages. The keys rise. In a clause it is that list.
 #[derive(Debug, Drop)]
@@ -110,12 +108,7 @@ impl LeafPage {
             let why = Why::Entry;
             return Err(PageFault::Damaged(Damaged { at, why }));
         };
-        if !found.rising {
-            let why = Why::Order;
-            return Err(PageFault::Damaged(Damaged { at, why }));
-        }
-        if !is_zeros(&bytes[found.end..]) {
-            let why = Why::Rest;
+        if let Some(why) = rows_fault(found.rising, &bytes[found.end..]) {
             return Err(PageFault::Damaged(Damaged { at, why }));
         }
         Ok(LeafPage {
@@ -166,61 +159,16 @@ fn read_entry(alloc: Global, bytes: &[u8]) -> Result<Option<LeafEntry>, NoMemory
     ensures length { IfOk result (λ answer. IfSome answer (λ entry. leaf_row_length bytes.now ≡ leaf_entry_length entry.key entry.message)) }
     ensures within { IfOk result (λ answer. IfSome answer (λ entry. leaf_entry_length entry.key entry.message ≤ length bytes.now)) }
 {
-    if bytes.len() < ENTRY_HEAD {
-        return Ok(None);
-    }
-    let kind = bytes[1];
-    let middle = ENTRY_HEAD + bytes[0] as usize;
-    let end = middle + value_length(bytes) as usize;
-    if bytes.len() < end {
-        return Ok(None);
-    }
-    let Ok(key) = Key::read(&bytes[ENTRY_HEAD..middle]) else {
-        return Ok(None);
+    let slot = match LeafSlot::read(bytes) {
+        Some(slot) => slot,
+        None => return Ok(None),
     };
-    let Some(message) = read_message(alloc, kind, &bytes[middle..end])? else {
-        return Ok(None);
+    let key = match Key::read(slot.key) {
+        Ok(key) => key,
+        Err(_) => unreachable!(),
     };
+    let message = slot.message(alloc)?;
     Ok(Some(LeafEntry { key, message }))
-}
-
-/// How many bytes the value of the entry at the front has.
-fn value_length(bytes: &[u8]) -> u16
-    requires { 4 ≤ length bytes.now }
-    ensures { result ≡ number_at 2 2 bytes.now }
-{
-    BigEndian::read_u16(&bytes[2..])
-}
-
-/// The message of this kind with this value, if there is one.
-fn read_message(alloc: Global, kind: u8, value: &[u8]) -> Result<Option<Message>, NoMemory>
-    ensures none { IfOk result (λ answer. MatchOption answer (is_message kind (length value.now) ≡ false) (λ message. is_message kind (length value.now) ≡ true)) }
-    ensures kind { IfOk result (λ answer. IfSome answer (λ message. kind_of message ≡ kind)) }
-    ensures value { IfOk result (λ answer. IfSome answer (λ message. value_of message ≡ value.now)) }
-{
-    match kind {
-        0 => match read_value(alloc, value)? {
-            Some(value) => Ok(Some(Message::Insert(value))),
-            None => Ok(None),
-        },
-        1 if value.is_empty() => Ok(Some(Message::Delete)),
-        2 => match read_value(alloc, value)? {
-            Some(operand) => Ok(Some(Message::Update(operand))),
-            None => Ok(None),
-        },
-        _ => Ok(None),
-    }
-}
-
-/// The value of these bytes, if it is not too long.
-fn read_value(alloc: Global, bytes: &[u8]) -> Result<Option<Value>, NoMemory>
-    ensures { IfOk result (λ answer. MatchOption answer (512 < length bytes.now) (λ value. (value ≡ bytes.now) × (length bytes.now ≤ 512))) }
-{
-    match Value::read(alloc, bytes) {
-        Ok(value) => Ok(Some(value)),
-        Err(ValueFault::Long { .. }) => Ok(None),
-        Err(ValueFault::NoMemory) => Err(NoMemory),
-    }
 }
 
 /// Whether the key is above those of the entries, which rise.
@@ -234,7 +182,7 @@ fn rises(entries: &[LeafEntry], key: &Key) -> bool
 }
 
 /// How many bytes an entry with this key and this message takes.
-fn entry_length(key: &Key, message: &Message) -> usize
+pub(crate) fn entry_length(key: &Key, message: &Message) -> usize
     ensures value { result ≡ leaf_entry_length key.now message.now }
     ensures short { result ≤ 580 }
 {
@@ -270,22 +218,24 @@ fn write_entries(out: &mut Vec<u8>, entries: &[LeafEntry]) -> Result<(), NoMemor
     ensures entries { OnOk result (All IsEntry entries.now) }
 {
     for entry in entries {
-        write_entry(out, entry)?;
+        write_entry(out, &entry.key, &entry.message)?;
     }
     Ok(())
 }
 
 /// Puts the bytes of an entry at the end.
-fn write_entry(out: &mut Vec<u8>, entry: &LeafEntry) -> Result<(), NoMemory>
-    ensures ok { OnOk result (out.new.items ≡ out.old.items ++ leaf_entry_text entry.now) }
-    ensures is_entry { IsEntry entry.now }
+pub(crate) fn write_entry(out: &mut Vec<u8>, key: &Key, message: &Message) -> Result<(), NoMemory>
+    ensures ok { OnOk result (out.new.items ≡ out.old.items ++ leaf_entry_text (record { key = key.now; message = message.now })) }
+    ensures err { OnErr result (out.new.items ≡ out.old.items) }
+    ensures is_entry { IsEntry (record { key = key.now; message = message.now }) }
 {
-    let key = entry.key.bytes();
-    let value = value_bytes(&entry.message);
+    let key = key.bytes();
+    let value = value_bytes(message);
     let mut head = [0; ENTRY_HEAD];
     head[0] = key.len() as u8;
-    head[1] = kind_number(&entry.message);
+    head[1] = kind_number(message);
     BigEndian::write_u16(&mut head[2..], value.len() as u16);
+    out.reserve(ENTRY_HEAD + key.len() + value.len())?;
     out.extend_from_slice(&head)?;
     out.extend_from_slice(key)?;
     out.extend_from_slice(value)?;

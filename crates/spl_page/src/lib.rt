@@ -8,14 +8,25 @@ mod fault;
 mod frame;
 mod index_entry;
 mod index_page;
+mod index_search;
+mod index_slot;
 mod leaf_entry;
 mod leaf_page;
+mod leaf_search;
+mod leaf_slot;
+mod leaf_writer;
+mod page_text;
 
 pub use fault::PageFault;
 pub use index_entry::IndexEntry;
 pub use index_page::IndexPage;
+pub use index_search::find_child;
 pub use leaf_entry::LeafEntry;
 pub use leaf_page::LeafPage;
+pub use leaf_search::find_message;
+pub use leaf_writer::LeafWriter;
 
+#[cfg(test)]
+mod search_tests;
 #[cfg(test)]
 mod tests;

@@ -1,3 +1,5 @@
+mod writers;
+
 use super::*;
 use spl_message::{Key, Message, Value};
 use spl_port::{At, Damaged, PageBytes, Why};

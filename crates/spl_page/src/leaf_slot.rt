@@ -1,0 +1,103 @@
+ghost use Rattle.std.specs.Prelude.{◌≡◌, ◌<◌, ◌≤◌, true, length, IfOk};
+ghost use Rattle.spl_port.specs.Page.{number_at};
+ghost use Rattle.spl_page.specs.LeafPage.{is_message};
+
+use crate::frame::KEY_LIMIT;
+use byteorder::{BigEndian, ByteOrder};
+use spl_message::{Message, NoMemory, Value};
+use std::alloc::Global;
+
+/// How many bytes of an entry stand before its key.
+pub(crate) const ENTRY_HEAD: usize = 4;
+
+/// The greatest number of bytes of a value.
+const VALUE_LIMIT: usize = 512;
+
+/// An entry of a leaf page, where it stands in the page's bytes.
+#[derive(Clone, Copy)]
+pub(crate) struct LeafSlot<'a> {
+    pub(crate) key: &'a [u8],
+    /// 0 for an insert, 1 for a delete and 2 for an update.
+    pub(crate) kind: u8,
+    pub(crate) value: &'a [u8],
+    ghost is_key: { (0 < length key.now) × (length key.now ≤ 64) },
+    ghost is_message: { is_message kind (length value.now) ≡ true },
+}
+
+impl<'a> LeafSlot<'a> {
+    ghost use Rattle.std.specs.Prelude.{IfSome};
+    ghost use Rattle.std.specs.Option.{option_map};
+    ghost use Rattle.spl_port.specs.Page.{leaf_row, leaf_row_length};
+    ghost use Rattle.spl_page.specs.Slots.{leaf_slot_length, leaf_slot_row, slot_message};
+
+    /// The entry at the front of these bytes, if there is one.
+    pub(crate) fn read(bytes: &'a [u8]) -> Option<LeafSlot<'a>>
+        ensures value { option_map leaf_slot_row result ≡ leaf_row bytes.now }
+        ensures length { IfSome result (λ slot. leaf_row_length bytes.now ≡ leaf_slot_length slot) }
+        ensures within { IfSome result (λ slot. leaf_slot_length slot ≤ length bytes.now) }
+    {
+        if bytes.len() < ENTRY_HEAD {
+            return None;
+        }
+        let kind = bytes[1];
+        let middle = ENTRY_HEAD + bytes[0] as usize;
+        let end = middle + value_length(bytes) as usize;
+        if bytes.len() < end {
+            return None;
+        }
+        let key = &bytes[ENTRY_HEAD..middle];
+        let value = &bytes[middle..end];
+        if key.is_empty() || key.len() > KEY_LIMIT || !is_message(kind, value.len()) {
+            return None;
+        }
+        Some(LeafSlot { key, kind, value })
+    }
+
+    /// How many bytes it takes.
+    pub(crate) fn length(&self) -> usize
+        ensures { result ≡ leaf_slot_length self.now }
+    {
+        ENTRY_HEAD + self.key.len() + self.value.len()
+    }
+
+    /// Its message, with a copy of its value.
+    pub(crate) fn message(&self, alloc: Global) -> Result<Message, NoMemory>
+        ensures { IfOk result (λ message. message ≡ slot_message self.now) }
+    {
+        match self.kind {
+            0 => Ok(Message::Insert(copy_value(alloc, self.value)?)),
+            1 => Ok(Message::Delete),
+            _ => Ok(Message::Update(copy_value(alloc, self.value)?)),
+        }
+    }
+}
+
+/// How many bytes the value of the entry at the front has.
+fn value_length(bytes: &[u8]) -> u16
+    requires { 4 ≤ length bytes.now }
+    ensures { result ≡ number_at 2 2 bytes.now }
+{
+    BigEndian::read_u16(&bytes[2..])
+}
+
+/// Whether there are messages of this kind whose value has so many bytes.
+fn is_message(kind: u8, len: usize) -> bool
+    ensures { result ≡ is_message kind len }
+{
+    match kind {
+        0 | 2 => len <= VALUE_LIMIT,
+        1 => len == 0,
+        _ => false,
+    }
+}
+
+/// A value of these bytes.
+fn copy_value(alloc: Global, bytes: &[u8]) -> Result<Value, NoMemory>
+    requires { length bytes.now ≤ 512 }
+    ensures { IfOk result (λ value. value ≡ bytes.now) }
+{
+    match Value::read(alloc, bytes) {
+        Ok(value) => Ok(value),
+        Err(_) => Err(NoMemory),
+    }
+}

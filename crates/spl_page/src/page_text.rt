@@ -1,0 +1,42 @@
+//! The bytes of a page that is being written: room for the first 16, and the entries behind.
+ghost use Rattle.std.specs.Prelude.{◌≡◌, ◌-◌, ◌≤◌, [], ◌++◌, length, drop, replicate, vec_len, IfOk, OnOk, OnErr};
+
+use crate::frame::HEAD_BYTES;
+use spl_message::NoMemory;
+use spl_port::{PAGE_BYTES, PageBytes};
+use std::mem;
+
+/// Makes room for the first bytes, and for a page, where there is none yet.
+pub(crate) fn begin_page(out: &mut Vec<u8>) -> Result<(), NoMemory>
+    ensures ok { OnOk result (16 ≤ length out.new.items) }
+    ensures entries { drop 16 out.new.items ≡ drop 16 out.old.items }
+{
+    if out.len() < HEAD_BYTES {
+        out.reserve_exact(PAGE_BYTES)?;
+        out.resize(HEAD_BYTES, 0)?;
+    }
+    Ok(())
+}
+
+/// The page of these first bytes and the entries, filled up with zeros. It is made of the bytes themselves.
+pub(crate) fn finish_page(out: &mut Vec<u8>, head: &[u8; HEAD_BYTES]) -> Result<PageBytes, NoMemory>
+    requires begun { 16 ≤ length out.old.items }
+    requires fits { length out.old.items ≤ 4096 }
+    ensures page { IfOk result (λ page. page ≡ head.now ++ (drop 16 out.old.items ++ replicate (4096 - vec_len out.old) 0)) }
+    ensures ok { OnOk result (out.new.items ≡ []) }
+    ensures err { OnErr result (out.new.items ≡ out.old.items) }
+{
+    out.resize(PAGE_BYTES, 0)?;
+    put_front(out.as_mut_slice(), head);
+    let alloc = *out.allocator();
+    let bytes = mem::replace(out, Vec::new(alloc));
+    Ok(PageBytes::from_vec(bytes))
+}
+
+/// Puts these bytes in the place of the first ones.
+fn put_front(page: &mut [u8], head: &[u8; HEAD_BYTES])
+    requires { 16 ≤ length page.old }
+    ensures { page.new ≡ head.now ++ drop 16 page.old }
+{
+    page[..HEAD_BYTES].copy_from_slice(head);
+}
