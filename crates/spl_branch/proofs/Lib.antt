@@ -1,7 +1,12 @@
 pub mod Admitting
+pub mod Descent
+pub mod Down
 pub mod GrowingLists
 pub mod GrowingParts
 pub mod GrowingTable
 pub mod GrowingTree
+pub mod Joined
 pub mod PartPages
 pub mod Telling
+pub mod ToldPages
+pub mod Visits

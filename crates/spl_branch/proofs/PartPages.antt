@@ -5,7 +5,7 @@ use Rattle.std.specs.Option.{option_map}
 use Rattle.std.proofs.lemmas.Bool.{cases_lt}
 use Rattle.std.proofs.lemmas.List.{length-append, length-map, length-replicate, nil_from_length}
 use Rattle.std.proofs.lemmas.Option.{slice_get-map, slice_get_read, slice_get_within}
-use Rattle.spl_port.specs.Seal.{Sealed, page_count}
+use Rattle.spl_port.specs.Seal.{Sealed, page_count, place}
 use Rattle.spl_branch.specs.Branch.{Branch, IsBranch}
 use Rattle.spl_branch.specs.Pages.{AreParts, page_total}
 
@@ -26,9 +26,9 @@ slice_get_some (x ∷ xs) zero within = (x, refl)
 slice_get_some (x ∷ xs) (suc i) within = slice_get_some xs i (omega arith)
 
 -- lists of 32 elements, one for each part, of which the last one may be shorter
-record Are32 {X : Type 0} (f : Sealed → List X) (parts : List Sealed) : Type 0 where
-  most : (j : ℕ) (part : Sealed) → slice_get parts j ≡ Some part → length (f part) ≤ 32
-  full : (j : ℕ) (part : Sealed) → slice_get parts j ≡ Some part → j + 1 < length parts → length (f part) ≡ 32
+pub record Are32 {X : Type 0} (f : Sealed → List X) (parts : List Sealed) : Type 0 where
+  pub most : (j : ℕ) (part : Sealed) → slice_get parts j ≡ Some part → length (f part) ≤ 32
+  pub full : (j : ℕ) (part : Sealed) → slice_get parts j ≡ Some part → j + 1 < length parts → length (f part) ≡ 32
 
 tail-32 : {X : Type 0} (f : Sealed → List X) (part : Sealed) (parts : List Sealed) → Are32 f (part ∷ parts) → Are32 f parts
 tail-32 f part parts are = record {
@@ -54,7 +54,7 @@ total-32 f (part ∷ next ∷ parts) (suc n) last are len at =
     let both = length-append (f part) (flat_map f (next ∷ parts)) in
     omega (arith, rest, first, both)
 
-at-32 : {X : Type 0} (f : Sealed → List X) (parts : List Sealed) (j r i : ℕ) (part : Sealed) → Are32 f parts → slice_get parts j ≡ Some part → r < length (f part) → i ≡ 32 * j + r
+pub at-32 : {X : Type 0} (f : Sealed → List X) (parts : List Sealed) (j r i : ℕ) (part : Sealed) → Are32 f parts → slice_get parts j ≡ Some part → r < length (f part) → i ≡ 32 * j + r
     → slice_get (flat_map f parts) i ≡ slice_get (f part) r
 at-32 f [] j r i part are at within is = absurd cc
 at-32 f (first ∷ parts) zero r i part are at within is =
@@ -170,3 +170,18 @@ counted means branch seals n pages seal is parts last read count =
     let most = (is.parts.each n (means seal) at).most in
     let within = parts_within branch.number branch.extents branch.parts is.parts in
     record { most = omega (arith, is.extents); total = omega arith }
+
+-- ---- where a page stands
+
+-- the part that has the page
+pub record PartAt (parts : List Sealed) (page : ℕ) : Type 0 where
+  pub part : Sealed
+  pub there : slice_get parts (page / 32) ≡ Some part
+  pub within : page % 32 < page_count part
+  pub own : (place part (page % 32)).page ≡ page
+
+pub part_at : (number : ℕ) (extents : List ℕ) (parts : List Sealed) (page : ℕ) → AreParts number extents parts → page < page_total parts → PartAt parts page
+part_at number extents parts page are within =
+    let stands = stands (λ part. part.leaves) parts page (are-32 number extents parts are) within in
+    let first = (are.each (page / 32) stands.part stands.there).first in
+    record { part = stands.part; there = stands.there; within = stands.within; own = omega (arith, first) }

@@ -1,5 +1,7 @@
 pub mod Branch
+pub mod Faults
 pub mod Last
 pub mod Pages
 pub mod Reading
 pub mod Tree
+pub mod Visiting

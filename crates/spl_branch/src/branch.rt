@@ -8,7 +8,7 @@ use spl_quotient::Filter;
 use std::marker::Model;
 
 /// How many pages an extent has.
-const EXTENT_PAGES: u32 = 32;
+pub(crate) const EXTENT_PAGES: u32 = 32;
 
 /// What a branch is made of, as its builder has it.
 #[derive(Drop)]
@@ -34,9 +34,9 @@ pub struct Parts<S: Seal> {
 /// A sorted table in pages, written once and sealed.
 #[derive(Drop)]
 pub struct Branch<S: Seal> {
-    parts: Parts<S>,
+    pub(crate) parts: Parts<S>,
     /// How many pages it has.
-    pages: u32,
+    pub(crate) pages: u32,
 }
 
 impl<S: Seal> Model for Branch<S> {
@@ -71,7 +71,7 @@ impl<S: Seal> Branch<S> {
 }
 
 /// Whether the filter admits the key. Takes no memory.
-fn is_admitted(filter: &Filter, key: &Key) -> bool
+pub(crate) fn is_admitted(filter: &Filter, key: &Key) -> bool
     ensures { result ≡ admits filter.now key.now }
 {
     filter.admits(key)

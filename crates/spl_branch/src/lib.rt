@@ -3,6 +3,8 @@
 
 mod branch;
 mod fault;
+mod get;
+mod visit;
 
 pub use branch::{Branch, Parts};
 pub use fault::BranchFault;

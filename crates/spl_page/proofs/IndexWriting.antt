@@ -28,7 +28,7 @@ passes n page len total a b c d = and_from _ _ (and_from _ _ (and_from _ _ (lt-l
 abbrev made : ℕ → List ℕ → Option IndexRow
 made child key = Some (record { child = child; key = key })
 
-entry_back : (page : ℕ) (entry : IndexEntry) (rest : List ℕ) → page < 2 ^ 32 → IsEntry page entry
+entry_back : (page : ℕ) (entry : IndexEntry) (rest : List ℕ) → page ≤ 2 ^ 32 → IsEntry page entry
     → index_row page (index_entry_text entry ++ rest) ≡ Some (index_row_of entry)
 entry_back page entry rest page_fits is =
     let bytes = index_entry_text entry ++ rest in
@@ -47,14 +47,14 @@ rest_back entry rest =
     let len : length (index_entry_text entry) ≡ 5 + length entry.first = omega arith in
     drop_at (index_entry_text entry) rest (5 + length entry.first) len
 
-is_read_back : (page : ℕ) (entry : IndexEntry) → page < 2 ^ 32 → IsEntry page entry
+is_read_back : (page : ℕ) (entry : IndexEntry) → page ≤ 2 ^ 32 → IsEntry page entry
     → IsReadBack (index_row page) index_row_length index_row_of index_entry_text entry
 is_read_back page entry page_fits is = record {
   first = λ rest. entry_back page entry rest page_fits is;
   rest = λ rest. rest_back entry rest;
 }
 
-are_read_back : (page : ℕ) (entries : List IndexEntry) → page < 2 ^ 32 → AllByRecursion (IsEntry page) entries
+pub are_read_back : (page : ℕ) (entries : List IndexEntry) → page ≤ 2 ^ 32 → AllByRecursion (IsEntry page) entries
     → AllByRecursion (IsReadBack (index_row page) index_row_length index_row_of index_entry_text) entries
 are_read_back page [] page_fits are = tt
 are_read_back page (entry ∷ entries) page_fits are = (is_read_back page entry page_fits are.0, are_read_back page entries page_fits are.1)
@@ -66,7 +66,7 @@ pub written : (at : At) (entries : List IndexEntry) (bytes : List ℕ) (n : ℕ)
 written at entries bytes n index page_fits branch_fits fits some are rising is =
     let body = flat_map index_entry_text entries ++ replicate n 0 in
     let text = head_text 73 (length entries) at ++ body in
-    let back = read_back (index_row at.page) index_row_length index_row_of index_entry_text entries (replicate n 0) (are_read_back at.page entries page_fits are) in
+    let back = read_back (index_row at.page) index_row_length index_row_of index_entry_text entries (replicate n 0) (are_read_back at.page entries (omega arith) are) in
     let rows : index_rows at.page text ≡ Some (whole (index_rows_of entries) (replicate n 0)) =
     ap (λ (k : ℕ). rows_of (index_row at.page) index_row_length k body) (count_back 73 (length entries) at body fits) ∙ back in
     let page : IsIndexPage at text (index_rows_of entries) =

@@ -1,10 +1,9 @@
 -- A leaf page that is written entry by entry is the page of its table.
-use Rattle.std.proofs.Common.{◌≡◌, ℕ, ◌+◌, ◌-◌, ◌*◌, ◌^◌, ◌<◌, ◌≤◌, ◌↔◌, max, leb, true, List, [], ◌∷◌, ◌++◌, Option, Some, None, length, drop, map, refl, sym, ap, subst, ◌∙◌, arith}
+use Rattle.std.proofs.Common.{◌≡◌, ℕ, ◌+◌, ◌-◌, ◌*◌, ◌^◌, ◌<◌, ◌≤◌, ◌↔◌, max, leb, true, List, [], ◌∷◌, ◌++◌, Option, Some, length, drop, map, refl, sym, ap, subst, ◌∙◌, arith}
 use Rattle.std.specs.Prelude.{replicate, All, MatchOption, sum_by}
 use Rattle.std.specs.List.{flat_map, AllByRecursion}
 use Rattle.std.specs.List.Sorted.{IsStrictlySortedBy}
 use Rattle.std.specs.Map.{keys_of}
-use Rattle.std.specs.Option.{option_map}
 use Rattle.std.proofs.lemmas.Bool.{le-leb, leb-true}
 use Rattle.std.proofs.lemmas.List.{append-nil, drop-append-le, flat_map_more, length-append, length-drop, length-map, map_push}
 use Rattle.std.proofs.lemmas.List.Elements.{All-append, All-cons, All-nil, recursion_from_All}
@@ -23,7 +22,7 @@ use Rattle.spl_page.specs.LeafWriter.{IsWritten, leaf_entries_of, leaf_entry_of,
 use Rattle.spl_page.specs.Tables.{found_rows, leaf_table, table_entry, table_length}
 use Rattle.spl_page.proofs.LeafWriting.{are_read_back, few, text_length, written}
 use Rattle.spl_page.proofs.Rising.{Ends, ends_push, passes_rising, rises_after}
-use Rattle.spl_page.proofs.Rows.{read_back}
+use Rattle.spl_page.proofs.Rows.{read_back, rows_are}
 
 message_back : (key : List ℕ) (message : Message) → table_entry (leaf_row_of (record { key = key; message = message })) ≡ (key, message)
 message_back key (Insert value) = refl
@@ -127,10 +126,6 @@ is_page table count bytes page at n is leaf page_fits branch_fits some text =
     ∙ ap (λ (k : ℕ). head_text 76 k at ++ (drop 16 bytes ++ replicate n 0)) same
     ∙ ap (λ (t : List ℕ). head_text 76 (length entries) at ++ (t ++ replicate n 0)) is.text in
     written at entries page n leaf page_fits branch_fits (few entries fits) (omega (arith, len, some)) (recursion_from_All IsEntry entries is.entries) rising bytes-are
-
-rows_are : (found : Option (Rows LeafRow)) (rows : List LeafRow) → option_map (λ f. f.rows) found ≡ Some rows → found_rows found ≡ rows
-rows_are None rows is = absurd (cc)
-rows_are (Some found) rows is = cc
 
 pub page_table : (table : Table) (at : At) (page : List ℕ) → IsLeafPage at page (leaf_rows_of (leaf_entries_of table)) → leaf_table page ≡ table
 unfolding leaf_table

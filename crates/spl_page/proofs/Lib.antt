@@ -1,6 +1,7 @@
 pub mod FrameLemmas
 pub mod IndexReading
 pub mod IndexSearching
+pub mod IndexTables
 pub mod IndexWriting
 pub mod LeafReading
 pub mod LeafSearching

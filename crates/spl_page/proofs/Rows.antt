@@ -5,6 +5,7 @@ use Rattle.std.specs.List.{flat_map, AllByRecursion}
 use Rattle.std.proofs.lemmas.List.{append-nil}
 use Rattle.std.proofs.lemmas.List.Sums.{sum_by-cons}
 use Rattle.spl_port.specs.Page.{Rows, rows_of}
+use Rattle.spl_page.specs.Tables.{found_rows}
 
 -- entries that were read before, and those that are still read
 abbrev pub behind : {R : Type 0} → List R → Option (Rows R) → Option (Rows R)
@@ -67,3 +68,8 @@ read_back row row_length row_is text (e ∷ es) rest h =
 pub length-le-sum_by : {E : Type 0} (f : E → ℕ) (es : List E) → ((e : E) → 1 ≤ f e) → length es ≤ sum_by f es
 length-le-sum_by f [] h = omega arith
 length-le-sum_by f (e ∷ es) h = omega (arith, h e, length-le-sum_by f es h, sum_by-cons f e es)
+
+-- the entries that were found
+pub rows_are : {R : Type 0} (found : Option (Rows R)) (rows : List R) → option_map (λ f. f.rows) found ≡ Some rows → found_rows found ≡ rows
+rows_are None rows is = absurd (cc)
+rows_are (Some found) rows is = cc

@@ -1,5 +1,6 @@
 pub mod Frame
 pub mod IndexPage
+pub mod IndexWriter
 pub mod LeafPage
 pub mod LeafWriter
 pub mod PageFault

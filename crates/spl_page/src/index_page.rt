@@ -177,7 +177,7 @@ fn rises(entries: &[IndexEntry], key: &Key) -> bool
 }
 
 /// How many bytes an entry with this first key takes.
-fn entry_length(key: &Key) -> usize
+pub(crate) fn entry_length(key: &Key) -> usize
     ensures value { result ≡ index_entry_length key.now }
     ensures is_key { IsKey key.now }
 {
@@ -190,20 +190,22 @@ fn write_entries(out: &mut Vec<u8>, entries: &[IndexEntry]) -> Result<(), NoMemo
     ensures keys { OnOk result (All (λ entry. IsKey entry.first) entries.now) }
 {
     for entry in entries {
-        write_entry(out, entry)?;
+        write_entry(out, entry.child, &entry.first)?;
     }
     Ok(())
 }
 
 /// Puts the bytes of an entry at the end.
-fn write_entry(out: &mut Vec<u8>, entry: &IndexEntry) -> Result<(), NoMemory>
-    ensures ok { OnOk result (out.new.items ≡ out.old.items ++ index_entry_text entry.now) }
-    ensures is_key { IsKey entry.now.first }
+pub(crate) fn write_entry(out: &mut Vec<u8>, child: u32, first: &Key) -> Result<(), NoMemory>
+    ensures ok { OnOk result (out.new.items ≡ out.old.items ++ index_entry_text (record { child = child; first = first.now })) }
+    ensures err { OnErr result (out.new.items ≡ out.old.items) }
+    ensures is_key { IsKey first.now }
 {
-    let key = entry.first.bytes();
+    let key = first.bytes();
     let mut head = [0; ENTRY_HEAD];
-    BigEndian::write_u32(&mut head, entry.child);
+    BigEndian::write_u32(&mut head, child);
     head[4] = key.len() as u8;
+    out.reserve(ENTRY_HEAD + key.len())?;
     out.extend_from_slice(&head)?;
     out.extend_from_slice(key)?;
     Ok(())
