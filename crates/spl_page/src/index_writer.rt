@@ -56,9 +56,10 @@ impl IndexWriter {
         self.count as usize
     }
 
-    /// Whether the page still has room for a child with this first key.
+    /// Whether the page still has room for a child with this first key. An empty page has.
     pub fn fits(&self, first: &Key) -> bool
-        ensures { IsTrue result ↔ (children_length self.now + index_entry_length first.now ≤ 4096) }
+        ensures value { IsTrue result ↔ (children_length self.now + index_entry_length first.now ≤ 4096) }
+        ensures short { index_entry_length first.now ≤ 69 }
     {
         self.bytes.len().max(HEAD_BYTES) <= PAGE_BYTES - entry_length(first)
     }

@@ -55,9 +55,10 @@ impl LeafWriter {
         self.count as usize
     }
 
-    /// Whether the page still has room for this key with this message.
+    /// Whether the page still has room for this key with this message. An empty page has.
     pub fn fits(&self, key: &Key, message: &Message) -> bool
-        ensures { IsTrue result ↔ (table_length self.now + leaf_entry_length key.now message.now ≤ 4096) }
+        ensures value { IsTrue result ↔ (table_length self.now + leaf_entry_length key.now message.now ≤ 4096) }
+        ensures short { leaf_entry_length key.now message.now ≤ 580 }
     {
         self.bytes.len().max(HEAD_BYTES) <= PAGE_BYTES - entry_length(key, message)
     }
@@ -82,6 +83,7 @@ impl LeafWriter {
         ensures page { IfOk result (λ page. leaf_fault at page ≡ None) }
         ensures table { IfOk result (λ page. leaf_table page ≡ self.old) }
         ensures kind { IfOk result (λ page. begins_leaf page ≡ true) }
+        ensures most { length self.old ≤ 816 }
         ensures ok { OnOk result (self.new ≡ []) }
         ensures err { OnErr result (self.new ≡ self.old) }
     {

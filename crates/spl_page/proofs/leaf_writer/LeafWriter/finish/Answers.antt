@@ -44,3 +44,13 @@ returns-clause-kind c = page_begins c.in_ok-page.page _ c.self.inside.count c.ar
 
 pub returns-clause-ok : goal.returns-clause-ok
 returns-clause-ok c = reads _ _ _ (none_written _ c.in_ok-page.ensures.ok)
+
+pub returns-clause-most : goal.returns-clause-most
+returns-clause-most c =
+    let is = subst (λ (t : Table). IsWritten t c.self.inside.count c.self.inside.bytes.items) c.self.view_is c.self.invariant in
+    omega (arith, most _ _ _ is, is.fits, is.counted)
+
+pub returns-in_err-page-clause-most : goal.returns-in_err-page-clause-most
+returns-in_err-page-clause-most c =
+    let is = subst (λ (t : Table). IsWritten t c.self.inside.count c.self.inside.bytes.items) c.self.view_is c.self.invariant in
+    omega (arith, most _ _ _ is, is.fits, is.counted)

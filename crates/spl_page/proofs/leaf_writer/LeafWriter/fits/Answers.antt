@@ -4,8 +4,8 @@ use Rattle.spl_page.specs.LeafWriter.{IsWritten}
 use Rattle.spl_page.proofs.LeafTables.{fits_by_bytes}
 use Rattle.spl_page.proofs.leaf_writer.LeafWriter.fits.Goals as goal
 
-pub returns : goal.returns
-returns c =
+pub returns-clause-value : goal.returns-clause-value
+returns-clause-value c =
     let bytes = c.self.inside.bytes.items in
     let is = subst (λ (t : Table). IsWritten t c.self.inside.count bytes) c.self.view_is c.self.invariant in
     let size : c.max.result ≡ max (length bytes) 16 = omega (arith, c.max.ensures, c.len.ensures, c.self.inside.bytes.ok.0) in
