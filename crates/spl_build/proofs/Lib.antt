@@ -1,0 +1,10 @@
+pub mod Packing
+pub mod Parts
+pub mod Rising
+pub mod Grove
+pub mod Adding
+pub mod Indexing
+pub mod Closing
+pub mod Steps
+pub mod Climbing
+pub mod Giving

@@ -1,0 +1,6 @@
+use Rattle.std.proofs.Common.{◌≡◌, take}
+use Rattle.spl_page.specs.IndexPage.{index_rows_of}
+use Rattle.spl_build.proofs.levels.fill.Given as goal
+
+abbrev pub invariant-loop-entry : goal.invariant-loop-entry
+invariant-loop-entry l = l.page ≡ index_rows_of (take l.entry-index l.entries)

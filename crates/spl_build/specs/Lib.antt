@@ -1,0 +1,7 @@
+pub mod Builder
+pub mod Counts
+pub mod Cuts
+pub mod Fault
+pub mod Levels
+pub mod Work
+pub mod Written
