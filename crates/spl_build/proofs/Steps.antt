@@ -60,6 +60,7 @@ module _ (work : WorkState) (key : List ℕ) (message : Message) (begun : Table)
         extents = refl;
         entries = ap (λ (hs : List ℕ). length hs) hashes_are ∙ length_push work.hashes (fnv_of key);
         last = last_is;
+        page = λ fits. begun_is;
         cuts = cuts_are;
         stage = refl;
         stopped = none;

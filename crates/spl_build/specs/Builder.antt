@@ -1,5 +1,5 @@
 -- A builder of a branch, as contracts see it.
-use Rattle.std.specs.Prelude.{◌≡◌, ℕ, ◌+◌, ◌<◌, ◌⊎◌, Bool, true, List, [], ◌∷◌, ◌++◌, length, Option, Some, None}
+use Rattle.std.specs.Prelude.{◌≡◌, ℕ, ◌+◌, ◌<◌, ◌≤◌, ◌⊎◌, Bool, true, List, [], ◌∷◌, ◌++◌, length, Option, Some, None}
 use Rattle.spl_message.specs.declared.message.Message.{Message}
 use Rattle.spl_message.specs.Table.{Table}
 use Rattle.spl_port.specs.Seal.{Sealed}
@@ -62,6 +62,8 @@ pub record Adds (tells : Bool) (old new : Building) (key : List ℕ) (message : 
   pub extents : new.extents ≡ old.extents
   pub entries : new.entries ≡ old.entries + 1
   pub last : new.last ≡ Some key
+  -- it stands in the leaf page that was begun, where it fits
+  pub page : table_length old.begun + leaf_entry_length key message ≤ 4096 → new.begun ≡ old.begun ++ (key, message) ∷ []
   pub cuts : new.cuts ≡ cuts_with old.cuts old.entries key
   pub stage : new.stage ≡ old.stage
   pub stopped : new.stopped ≡ None

@@ -61,8 +61,8 @@ impl<P: Port> Builder<P> {
 
     /// Adds a key with its message behind the others. Where the next page has no extent left, nothing is added.
     pub fn add(&mut self, port: &mut P, key: &Key, message: &Message) -> Result<Add, BuildFault>
-        requires stage { self.old.stage ≡ Stage.Adding }
-        requires rising { IfSome self.old.last (λ last. is_below last key.now ≡ true) }
+        requires stage { self.old.stopped ≡ None → self.old.stage ≡ Stage.Adding }
+        requires rising { self.old.stopped ≡ None → IfSome self.old.last (λ last. is_below last key.now ≡ true) }
 
         // After a fault no call is made.
         ensures stopped { IfSome self.old.stopped (λ fault. result ≡ Err fault) }
@@ -103,7 +103,7 @@ impl<P: Port> Builder<P> {
     /// Writes the pages that are left, and gives the branch away. Where the next page has no extent left, the next call goes on from
     /// there.
     pub fn finish(&mut self, port: &mut P) -> Result<Finish<P::Seal>, BuildFault>
-        requires { self.old.stage ≢ Stage.Over }
+        requires { self.old.stopped ≡ None → self.old.stage ≢ Stage.Over }
 
         // After a fault no call is made.
         ensures stopped { IfSome self.old.stopped (λ fault. result ≡ Err fault) }

@@ -14,3 +14,6 @@ pub use answer::{Add, Finish};
 pub use builder::Builder;
 pub use fault::BuildFault;
 pub use stage::Stage;
+
+#[cfg(test)]
+mod tests;
