@@ -16,13 +16,14 @@ pub record Climbs (tells : Bool) (old now : WorkState) (before after : Counts) :
   pub counts : OnlyWrites before after
 
 keeps_same : (tells : Bool) (old : Building) → Keeps tells old old
-keeps_same tells old = record { number = refl; extents = refl; entries = refl; cuts = refl; last = refl; table = λ _. refl }
+keeps_same tells old = record { number = refl; extents = refl; entries = refl; hashes = refl; cuts = refl; last = refl; table = λ _. refl }
 
 pub keeps_on : (tells : Bool) (old mid new : Building) → Keeps tells old mid → Keeps tells mid new → Keeps tells old new
 keeps_on tells old mid new first next = record {
   number = next.number ∙ first.number;
   extents = next.extents ∙ first.extents;
   entries = next.entries ∙ first.entries;
+  hashes = next.hashes ∙ first.hashes;
   cuts = next.cuts ∙ first.cuts;
   last = next.last ∙ first.last;
   table = λ is. next.table is ∙ first.table is;

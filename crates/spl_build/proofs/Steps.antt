@@ -59,6 +59,7 @@ module _ (work : WorkState) (key : List ℕ) (message : Message) (begun : Table)
         number = refl;
         extents = refl;
         entries = ap (λ (hs : List ℕ). length hs) hashes_are ∙ length_push work.hashes (fnv_of key);
+        hashes = hashes_are;
         last = last_is;
         page = λ fits. begun_is;
         cuts = cuts_are;
@@ -110,6 +111,7 @@ module _ (tells : Bool) (work : WorkState) (written : Written) (bytes key : List
         number = appends.number;
         extents = appends.extents;
         entries = refl;
+        hashes = refl;
         cuts = refl;
         last = refl;
         table = λ is. ap (λ (t : Table). leaf_entries (shown_pages written.parts) ++ t) begun_is ∙ leaf_table_same tells work written bytes key adding first_is few appends sound_there table leaf (appends.told is);
@@ -165,6 +167,7 @@ module _ (work : WorkState) (sound : IsWork work) where
           number = appends.number;
           extents = appends.extents;
           entries = refl;
+          hashes = refl;
           cuts = refl;
           last = refl;
           table = λ is. index_table_same tells work.written written bytes work.begun appends index (appends.told is);

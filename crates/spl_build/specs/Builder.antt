@@ -1,8 +1,11 @@
 -- A builder of a branch, as contracts see it.
-use Rattle.std.specs.Prelude.{◌≡◌, ℕ, ◌+◌, ◌<◌, ◌≤◌, ◌⊎◌, Bool, true, List, [], ◌∷◌, ◌++◌, length, Option, Some, None}
+use Rattle.std.specs.Prelude.{◌≡◌, ℕ, ◌+◌, ◌<◌, ◌≤◌, ◌⊎◌, Bool, true, ◌↔◌, List, [], ◌∷◌, ◌++◌, length, map, Contains, Option, Some, None}
 use Rattle.spl_message.specs.declared.message.Message.{Message}
 use Rattle.spl_message.specs.Table.{Table}
 use Rattle.spl_port.specs.Seal.{Sealed}
+use Rattle.spl_quotient.specs.Exponent.{IsExponent}
+use Rattle.spl_quotient.specs.Filter.{Filter}
+use Rattle.spl_quotient.specs.Fnv.{fnv_of, print_of}
 use Rattle.spl_page.specs.LeafPage.{leaf_entry_length}
 use Rattle.spl_page.specs.Tables.{table_length}
 use Rattle.spl_branch.specs.Branch.{Branch, leaf_entries, table_of}
@@ -17,13 +20,14 @@ use Rattle.spl_build.specs.Work.{IsAdding, IsFinishing, WorkState}
 use Rattle.spl_build.specs.Written.{IsFull}
 
 -- its number, the extents that were handed in, the parts that are written, the leaf page that is begun, how many keys were added,
--- where the branch may be cut, the last key, how many written pages have no parent, its stage, and what stopped it
+-- their hashes, where the branch may be cut, the last key, how many written pages have no parent, its stage, and what stopped it
 pub record Building : Type 0 where
   pub number : ℕ
   pub extents : List ℕ
   pub parts : List Sealed
   pub begun : Table
   pub entries : ℕ
+  pub hashes : List ℕ
   pub cuts : List (List ℕ)
   pub last : Option (List ℕ)
   pub roots : ℕ
@@ -38,6 +42,7 @@ building work stage stopped = record {
   parts = work.written.parts;
   begun = work.begun;
   entries = length work.hashes;
+  hashes = work.hashes;
   cuts = work.cuts;
   last = work.last;
   roots = length work.levels.waiting + length work.levels.above;
@@ -61,6 +66,7 @@ pub record Adds (tells : Bool) (old new : Building) (key : List ℕ) (message : 
   pub number : new.number ≡ old.number
   pub extents : new.extents ≡ old.extents
   pub entries : new.entries ≡ old.entries + 1
+  pub hashes : new.hashes ≡ old.hashes ++ fnv_of key ∷ []
   pub last : new.last ≡ Some key
   -- it stands in the leaf page that was begun, where it fits
   pub page : table_length old.begun + leaf_entry_length key message ≤ 4096 → new.begun ≡ old.begun ++ (key, message) ∷ []
@@ -78,6 +84,7 @@ pub record Keeps (tells : Bool) (old new : Building) : Type 0 where
   pub number : new.number ≡ old.number
   pub extents : new.extents ≡ old.extents
   pub entries : new.entries ≡ old.entries
+  pub hashes : new.hashes ≡ old.hashes
   pub cuts : new.cuts ≡ old.cuts
   pub last : new.last ≡ old.last
   pub table : tells ≡ true → added new ≡ added old
@@ -90,12 +97,18 @@ pub record Needs (tells : Bool) (old new : Building) : Type 0 where
   pub stage : new.stage ≡ Finishing
   pub stopped : new.stopped ≡ None
 
+-- the filter is that of the keys with these hashes
+pub record IsFilterOf (hashes : List ℕ) (filter : Filter) : Type 0 where
+  pub exponent : IsExponent (length hashes) filter.q
+  pub prints : (print : ℕ) → Contains filter.prints print ↔ Contains (map (print_of filter.q) hashes) print
+
 -- the branch is that of what was added, in the extents that were handed in
 pub record Builds (tells : Bool) (old : Building) (branch : Branch) : Type 0 where
   pub number : branch.number ≡ old.number
   pub extents : branch.extents ≡ old.extents
   pub entries : branch.entries ≡ old.entries
   pub cuts : branch.cuts ≡ old.cuts
+  pub filter : IsFilterOf old.hashes branch.filter
   pub table : tells ≡ true → table_of branch ≡ added old
 
 -- the key does not fit into the leaf page that is begun, and the next page has no extent left

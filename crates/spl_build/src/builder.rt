@@ -45,6 +45,7 @@ impl<P: Port> Builder<P> {
           parts = [];
           begun = [];
           entries = 0;
+          hashes = [];
           cuts = [];
           last = None;
           roots = 0;

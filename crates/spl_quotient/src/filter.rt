@@ -16,7 +16,8 @@ use std::marker::Model;
 /// A quotient filter: which fingerprints the keys that it was built of have.
 ///
 /// It takes two bytes a slot, and two to four slots a key, at least 64 in all. It is never wrong about a key of the
-/// build; of other keys it admits those that share a fingerprint with one, at most about one in 8,192.
+/// build; of other keys it admits those that share a fingerprint with one. That is at most about one in 8,192 where
+/// hashes are spread evenly, and more among keys that differ in their last bytes alone.
 #[derive(Debug, Drop)]
 pub struct Filter {
     table: Table,

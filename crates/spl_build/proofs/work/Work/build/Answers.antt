@@ -1,7 +1,9 @@
-use Rattle.std.proofs.Common.{◌≡◌, ◌<◌, ◌≤◌, ◌+◌, ℕ, ◌↔◌, List, [], length, map, ap, subst, sym, arith}
+use Rattle.std.proofs.Common.{rules, ◌≡◌, ◌<◌, ◌≤◌, ◌+◌, ℕ, ◌↔◌, List, [], length, map, ap, subst, sym, arith}
 use Rattle.std.specs.Prelude.{Contains}
 use Rattle.spl_quotient.specs.Exponent.{IsExponent}
 use Rattle.spl_quotient.specs.Fnv.{print_of}
+use Rattle.spl_branch.specs.Branch.{Branch}
+use Rattle.spl_build.specs.Builder.{IsFilterOf}
 use Rattle.spl_build.specs.Work.{IsWork, WorkState}
 use Rattle.spl_build.proofs.Closing.{branch_made, few_hashes, few_levels}
 use Rattle.spl_build.proofs.work.Work.build.Goals as goal
@@ -29,3 +31,18 @@ new-requires-2-after_bounds g c =
     λ κs within.
     branch_made _ c.in_ok-filter.filter sound leaf some root c.close.ensures.sound c.close.ensures.most exponent prints
     _ _ _ _ _ _ c.number-number.ensures c.in_ok-closed.ensures.extents c.in_ok-closed.ensures.parts (ap (λ n. n + 1) c.height.ensures) entries (ap (λ cuts. cuts.items) c.replace.ensures.value)
+
+pub returns-clause-built : goal.returns-clause-built
+returns-clause-built g c =
+    let exponent = subst (λ (hs : List ℕ). IsExponent (length hs) c.in_ok-filter.filter.q) c.deref.ensures.value c.in_ok-filter.ensures.exponent in
+    let prints = subst (λ (hs : List ℕ). (print : ℕ) → Contains c.in_ok-filter.filter.prints print ↔ Contains (map (print_of c.in_ok-filter.filter.q) hs) print) c.deref.ensures.value c.in_ok-filter.ensures.prints in
+    let filter : IsFilterOf c.self.inside.keys.hashes.items c.in_ok-filter.filter = record { exponent = exponent; prints = prints } in
+    let here = subst (λ (w : WorkState). IsFilterOf w.hashes c.in_ok-filter.filter) c.self.view_is filter in
+    record {
+      number = search rules;
+      extents = search rules;
+      entries = search rules;
+      cuts = search rules;
+      filter = subst (λ (b : Branch). IsFilterOf c.args.self.now.hashes b.filter) (sym c.new-2.ensures) here;
+      table = search rules;
+    }
