@@ -2,7 +2,7 @@ ghost use Rattle.std.specs.Prelude.{◌≡◌, ◌+◌, ◌<◌, ◌≤◌, ◌^
 ghost use Rattle.spl_message.specs.Key.{AreRising};
 ghost use Rattle.spl_page.specs.IndexPage.{index_rows_of};
 ghost use Rattle.spl_page.specs.Tables.{child_keys};
-ghost use Rattle.spl_build.specs.Levels.{adopted};
+ghost use Rattle.spl_build.specs.Levels.{IsPacked, adopted};
 
 use spl_message::{Key, NoMemory};
 use spl_page::{IndexEntry, IndexWriter};
@@ -78,6 +78,7 @@ impl Levels {
         requires { AreRising (child_keys self.now.waiting) }
         ensures front { IfOk result (λ page. page ≡ take (length page) self.now.waiting) }
         ensures some { 0 < length self.now.waiting → IfOk result (λ page. 0 < length page) }
+        ensures full { IfOk result (λ page. IsPacked page self.now.waiting) }
     {
         let mut page = IndexWriter::new(*self.level.allocator());
         fill(&mut page, &self.level[self.packed..])?;
@@ -110,6 +111,7 @@ fn fill(page: &mut IndexWriter, entries: &[IndexEntry]) -> Result<(), NoMemory>
     requires rising { AreRising (child_keys (index_rows_of entries.now)) }
     ensures front { OnOk result (page.new ≡ take (length page.new) (index_rows_of entries.now)) }
     ensures some { 0 < length entries.now → OnOk result (0 < length page.new) }
+    ensures full { OnOk result (IsPacked page.new (index_rows_of entries.now)) }
 {
     for entry in entries {
         if !page.fits(&entry.first) {

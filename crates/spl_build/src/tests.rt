@@ -168,6 +168,24 @@ fn a_lookup_reads_one_page_a_level(rt: HostRuntime) -> Result<(), Fail> {
 }
 
 #[test]
+fn a_read_that_fails_is_the_devices_fault(rt: HostRuntime) -> Result<(), Fail> {
+    let alloc = rt.alloc();
+    let mut port = MemPort::failing(alloc, Calls::Reads);
+    let mut builder = builder_with(&rt, alloc, 1);
+    let one = insert(&rt, alloc, b"1");
+    let branch = build(&rt, alloc, &mut builder, &mut port, 409, &one)?;
+    let first = key_of(&rt, alloc, 0);
+    assert!(rt;
+        matches!(
+            branch.get(&mut port, &Direct, &first),
+            Err(BranchFault::Fault)
+        )
+    );
+    assert_eq!(rt; (port.faults(), port.reads()), (1, 0));
+    Ok(())
+}
+
+#[test]
 fn updates_and_deletes_come_back(rt: HostRuntime) -> Result<(), Fail> {
     let alloc = rt.alloc();
     let mut port = MemPort::new(alloc);
