@@ -1,3 +1,4 @@
 pub mod Bounds
 pub mod Messages
 pub mod Rising
+pub mod Words

@@ -5,9 +5,12 @@ ghost use Rattle.std.specs.Cmp.Lexicographic.{pointwise, slice_cmp, nat_list_eq_
 ghost use Rattle.spl_message.specs.Bound.{IsBound, IsLeastAbove};
 
 use crate::key::Key;
-use crate::room::{front, room_of};
+use crate::room::{compare, front, room_of};
 use std::cmp::Ordering;
 use std::marker::Model;
+
+/// The greatest number of bytes of a bound.
+pub const BOUND_LIMIT: usize = 65;
 
 /// An end of keys that is not included: 1 to 65 bytes, ordered by their bytes as keys are. A clause sees the list of the
 /// bytes.
@@ -15,7 +18,7 @@ use std::marker::Model;
 /// The bytes stand in the value itself, so making, copying and comparing a bound take no memory.
 #[derive(Clone, Copy, Debug)]
 pub struct Bound {
-    room: [u8; 65],
+    room: [u8; BOUND_LIMIT],
     len: u8,
 }
 
@@ -44,7 +47,7 @@ impl Bound {
     {
         let bytes = key.bytes();
         Bound {
-            room: room_of::<65>(bytes),
+            room: room_of::<BOUND_LIMIT>(bytes),
             len: bytes.len() as u8,
         }
     }
@@ -55,7 +58,7 @@ impl Bound {
         ensures least { IsLeastAbove key.now result }
     {
         let bytes = key.bytes();
-        let after = room_of::<65>(bytes);
+        let after = room_of::<BOUND_LIMIT>(bytes);
         Bound {
             room: after,
             len: bytes.len() as u8 + 1,
@@ -77,6 +80,14 @@ impl Bound {
     {
         front(&self.room, self.len as usize)
     }
+
+    /// How the bytes compare to the other's.
+    #[inline]
+    fn compare(&self, other: &Bound) -> Ordering
+        ensures { result ≡ slice_cmp nat_cmp self.now other.now }
+    {
+        compare(&self.room, self.len, &other.room, other.len)
+    }
 }
 
 impl PartialEq for Bound {
@@ -85,7 +96,7 @@ impl PartialEq for Bound {
     ghost laws = { partial_equiv_from_equiv nat_list_eq_equiv };
 
     fn eq(&self, other: &Bound) -> bool {
-        self.bytes() == other.bytes()
+        self.compare(other).is_eq()
     }
 }
 
@@ -113,6 +124,6 @@ impl Ord for Bound {
     ghost matches_eq = { texts_ties };
 
     fn cmp(&self, other: &Bound) -> Ordering {
-        self.bytes().cmp(&other.bytes())
+        self.compare(other)
     }
 }
