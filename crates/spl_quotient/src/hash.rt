@@ -3,6 +3,7 @@ ghost use Rattle.std.specs.Prelude.{◌≡◌, ◌≤◌, ◌<◌, ◌^◌, ◌+
 ghost use Rattle.spl_quotient.specs.Fnv.{fnv_of, print_of, fingerprint_of};
 
 use spl_message::Key;
+use std::marker::Model;
 
 /// The hash of no bytes.
 const OFFSET_BASIS: u64 = 0xcbf29ce484222325;
@@ -39,4 +40,48 @@ pub fn fingerprint(key: &Key, q: u32) -> u64
     ensures bits { result < 2 ^ (q + 12) }
 {
     top_bits(fnv(key.bytes()), q)
+}
+
+/// A key with its hash: made once by a lookup, which asks many filters. A clause sees the key.
+#[derive(Debug, Drop)]
+pub struct Hashed<'a> {
+    key: &'a Key,
+    hash: u64,
+}
+
+impl<'a> Model for Hashed<'a> {
+    ghost use Rattle.std.specs.Prelude.{◌≡◌, ℕ, List};
+    ghost use Rattle.spl_quotient.specs.Fnv.{fnv_of};
+
+    ghost Value = { List ℕ };
+
+    ghost view = { λ hashed. hashed.key.now };
+
+    ghost invariant = { λ hashed. hashed.hash ≡ fnv_of hashed.key.now };
+}
+
+impl<'a> Hashed<'a> {
+    /// The key with its hash.
+    pub fn of(key: &'a Key) -> Hashed<'a>
+        ensures { result ≡ key.now }
+    {
+        Hashed {
+            key,
+            hash: fnv(key.bytes()),
+        }
+    }
+
+    /// The key.
+    pub fn key(&self) -> &'a Key
+        ensures { result.now ≡ self.now }
+    {
+        self.key
+    }
+
+    /// Its hash.
+    pub fn hash(&self) -> u64
+        ensures { result ≡ fnv_of self.now }
+    {
+        self.hash
+    }
 }

@@ -22,7 +22,7 @@ mod slot;
 mod table;
 
 pub use filter::Filter;
-pub use hash::{fingerprint, fnv};
+pub use hash::{Hashed, fingerprint, fnv};
 
 #[cfg(test)]
 mod tests;
