@@ -5,12 +5,11 @@ use crate::key::Key;
 
 /// A branch, as others see it: a table that never changes, with a number, and extents of the file that hold it.
 ///
-/// Where `TELLS` is true the branch means its table. Where it is false the device may give anything for its pages, and no
-/// clause speaks of what they hold.
+/// Where the ghost member `TELLS` is true the branch means its table. Where it is false the device may give anything for its
+/// pages, and no clause speaks of what they hold. There is no such number at run time, so code that serves every device serves
+/// both kinds alike.
 pub trait Content: Drop {
     ghost TELLS: { Bool };
-
-    const TELLS: bool;
 
     ghost table: { Self → Table };
 
