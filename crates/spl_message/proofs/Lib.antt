@@ -5,3 +5,4 @@ pub mod Messages
 pub mod Rising
 pub mod Spans
 pub mod Tables
+pub mod Words

@@ -6,9 +6,12 @@ ghost use Rattle.spl_message.specs.Bound.{IsBound, IsLeastAbove};
 ghost use Rattle.spl_message.specs.Key.{is_below};
 
 use crate::key::Key;
-use crate::room::{front, room_of};
+use crate::room::{compare, front, room_of};
 use std::cmp::Ordering;
 use std::marker::Model;
+
+/// The greatest number of bytes of a bound.
+pub const BOUND_LIMIT: usize = 65;
 
 /// An end of keys that is not included: 1 to 65 bytes, ordered by their bytes as keys are. A clause sees the list of the
 /// bytes.
@@ -16,7 +19,7 @@ use std::marker::Model;
 /// The bytes stand in the value itself, so making, copying and comparing a bound take no memory.
 #[derive(Clone, Copy, Debug)]
 pub struct Bound {
-    room: [u8; 65],
+    room: [u8; BOUND_LIMIT],
     len: u8,
 }
 
@@ -45,7 +48,7 @@ impl Bound {
     {
         let bytes = key.bytes();
         Bound {
-            room: room_of::<65>(bytes),
+            room: room_of::<BOUND_LIMIT>(bytes),
             len: bytes.len() as u8,
         }
     }
@@ -56,7 +59,7 @@ impl Bound {
         ensures least { IsLeastAbove key.now result }
     {
         let bytes = key.bytes();
-        let after = room_of::<65>(bytes);
+        let after = room_of::<BOUND_LIMIT>(bytes);
         Bound {
             room: after,
             len: bytes.len() as u8 + 1,
@@ -85,6 +88,14 @@ impl Bound {
     {
         front(&self.room, self.len as usize)
     }
+
+    /// How the bytes compare to the other's.
+    #[inline]
+    fn compare(&self, other: &Bound) -> Ordering
+        ensures { result ≡ slice_cmp nat_cmp self.now other.now }
+    {
+        compare(&self.room, self.len, &other.room, other.len)
+    }
 }
 
 impl PartialEq for Bound {
@@ -93,7 +104,7 @@ impl PartialEq for Bound {
     ghost laws = { partial_equiv_from_equiv nat_list_eq_equiv };
 
     fn eq(&self, other: &Bound) -> bool {
-        self.bytes() == other.bytes()
+        self.compare(other).is_eq()
     }
 }
 
@@ -121,6 +132,6 @@ impl Ord for Bound {
     ghost matches_eq = { texts_ties };
 
     fn cmp(&self, other: &Bound) -> Ordering {
-        self.bytes().cmp(&other.bytes())
+        self.compare(other)
     }
 }
