@@ -3,6 +3,7 @@ ghost use Rattle.std.specs.Ordering.{nat_cmp};
 ghost use Rattle.std.specs.Cmp.{partial_equiv_from_equiv};
 ghost use Rattle.std.specs.Cmp.Lexicographic.{pointwise, slice_cmp, nat_list_eq_equiv, nat_list_cmp_total, texts_po, texts_ties};
 ghost use Rattle.spl_message.specs.Bound.{IsBound, IsLeastAbove};
+ghost use Rattle.spl_message.specs.Key.{is_below};
 
 use crate::key::Key;
 use crate::room::{compare, front, room_of};
@@ -71,6 +72,13 @@ impl Bound {
         ensures value { IfSome result (λ key. key ≡ self.now) }
     {
         Key::read(self.bytes()).ok()
+    }
+
+    /// Whether the key is below the bound.
+    pub fn is_above(&self, key: &Key) -> bool
+        ensures { result ≡ is_below key.now self.now }
+    {
+        key.bytes().cmp(&self.bytes()) == Ordering::Less
     }
 
     /// The bytes.

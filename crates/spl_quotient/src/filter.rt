@@ -5,11 +5,11 @@ ghost use Rattle.spl_quotient.specs.Exponent.{IsExponent};
 ghost use Rattle.spl_quotient.specs.Table.{IsLaid, prints_in};
 
 use crate::find::has;
-use crate::hash::{fnv, top_bits};
+use crate::hash::top_bits;
 use crate::lay::lay;
 use crate::prints::{farthest_ahead, in_order, prints_of_hashes, prints_of_keys};
 use crate::table::Table;
-use spl_message::{Key, NoMemory};
+use spl_message::{Key, NoMemory, fnv};
 use std::alloc::Global;
 use std::marker::Model;
 
