@@ -1,17 +1,15 @@
 -- A run of one caller, line by line: what its rows are so far, and what they are at its end.
-use Rattle.std.proofs.Common.{◌≡◌, ℕ, zero, suc, ◌+◌, ◌<◌, ◌≤◌, Bool, true, false, cond, eqb, ◌⊎◌, inl, inr, List, [], ◌∷◌, ◌++◌, length, get_or, take, drop, map, filter, flat_map, Option, Some, None, is_some, IfSome, All, refl, ap, ◌∙◌, sym, subst, arith, append_assoc, length-append}
+use Rattle.std.proofs.Common.{◌≡◌, ℕ, zero, suc, ◌+◌, ◌<◌, ◌≤◌, Bool, true, cond, eqb, ◌⊎◌, inl, inr, List, [], ◌∷◌, ◌++◌, length, get_or, take, drop, map, filter, Option, Some, None, is_some, IfSome, All, refl, ap, ◌∙◌, sym, subst, arith, append_assoc, length-append}
 use Rattle.std.specs.List.{AllByRecursion}
 use Rattle.std.specs.Option.{option_or}
 use Rattle.std.proofs.Math.Dec.{eqb-zero-suc}
-use Rattle.std.proofs.lemmas.List.{append-nil, take-append-le, take_at, drop_at, take_all, take_more, take-append-drop, length-map, map-append}
+use Rattle.std.proofs.lemmas.List.{append-nil, take_at, drop_at, take_more, take-append-drop, length-map, map-append}
 use Rattle.std.proofs.lemmas.List.Elements.{All-from_recursion, recursion_from_All, filter-append}
-use Rattle.std.proofs.lemmas.List.Sums.{fold-append}
-use Rattle.std.proofs.lemmas.Grind.{flat_map-append}
 use Rattle.spl_message.specs.declared.answer.Answer.{Answer}
 use Rattle.spl_message.specs.declared.call.Call.{Call}
 use Rattle.spl_message.specs.declared.call.Call.TheVariants.{Put, Look, Piece}
-use Rattle.spl_message.specs.declared.message.Message.{Message}
-use Rattle.spl_message.specs.Answer.{Answered, IsPieceOf, IsStopped, told_of}
+use Rattle.spl_message.proofs.Histories.{Answered-append, act_all-cond, cell_at-more}
+use Rattle.spl_message.specs.Answer.{Answered, IsStopped, told_of}
 use Rattle.spl_message.specs.Cell.{Cell}
 use Rattle.spl_message.specs.Message.{act, act_all}
 use Rattle.spl_message.specs.Rule.{newest}
@@ -56,21 +54,10 @@ expand_push : (done : List ScriptLine) (rows : List Row) (line : ScriptLine) (ch
 expand_push [] rows line chain e c = (chain, [], ap (λ r. r ++ chain) e ∙ sym (append-nil chain), c, refl)
 expand_push (l ∷ ls) rows line chain e c = (e.0, e.1 ++ chain, ap (λ r. r ++ chain) e.2 ∙ append_assoc e.0 e.1 chain, e.3, expand_push ls e.1 line chain e.4 c)
 
-cell_kept : (history : History) (event : Event) (place : ℕ) (key : List ℕ) → place ≤ length history → cell_at newest (history ++ event ∷ []) place key ≡ cell_at newest history place key
-cell_kept history event place key within =
-    ap (λ h. act_all newest key None (flat_map (λ (e : Event). messages_to key e.call) h)) (take-append-le place history (event ∷ []) within)
-
-answered_kept : (history : History) (event : Event) (place : ℕ) (call : Call) (answer : Answer) → place ≤ length history → Answered newest history place call answer → Answered newest (history ++ event ∷ []) place call answer
-answered_kept history event place (Put key message) answer within a = a
-answered_kept history event place (Look key) answer within a = a ∙ ap told_of (sym (cell_kept history event place key within))
-answered_kept history event place (Piece span) answer within a =
-    let cells : cell_at newest history place ≡ cell_at newest (history ++ event ∷ []) place = λ i key. sym (cell_kept history event place key within) i in
-    subst (λ c. IsPieceOf c span answer) cells a
-
 answers_kept : (history : History) (event : Event) (place : ℕ) (rows : List Row) → place + length rows ≤ length history → AnsweredOn history place rows → AnsweredOn (history ++ event ∷ []) place rows
 answers_kept history event place [] within a = tt
 answers_kept history event place (row ∷ rows) within a =
-    (answered_kept history event place row.call row.answer (omega arith) a.0, answers_kept history event (place + 1) rows (omega arith) a.1)
+    (Answered-append newest history (event ∷ []) place row.call row.answer (omega arith) a.0, answers_kept history event (place + 1) rows (omega arith) a.1)
 
 answers_push : (history : History) (place : ℕ) (rows : List Row) (row : Row) → AnsweredOn history place rows → Answered newest history (place + length rows) row.call row.answer → AnsweredOn history place (rows ++ row ∷ [])
 answers_push history place [] row a h = let zero : place + 0 ≡ place = omega arith in (subst (λ n. Answered newest history n row.call row.answer) zero h, tt)
@@ -78,29 +65,14 @@ answers_push history place (x ∷ xs) row a h =
     let shift : place + length (x ∷ xs) ≡ place + 1 + length xs = omega arith in
     (a.0, answers_push history (place + 1) xs row a.1 (subst (λ n. Answered newest history n row.call row.answer) shift h))
 
-act_chosen : (key : List ℕ) (cell : Cell) (message : Message) (b : Bool) → act_all newest key cell (cond b (message ∷ []) []) ≡ cond b (act newest key cell message) cell
-act_chosen key cell message true = refl
-act_chosen key cell message false = refl
-
--- the cell behind the last call is what that call's messages make of the cell before it
-cell_more : (history : History) (event : Event) (key : List ℕ) → cell_at newest (history ++ event ∷ []) (length history + 1) key ≡ act_all newest key (cell_at newest history (length history) key) (messages_to key event.call)
-cell_more history event key =
-    let messages : Event → List Message = λ e. messages_to key e.call in
-    let count : length (history ++ event ∷ []) ≡ length history + 1 = length-append history (event ∷ []) in
-    ap (λ h. act_all newest key None (flat_map messages h)) (take_all (length history + 1) (history ++ event ∷ []) (omega arith))
-    ∙ ap (act_all newest key None) (flat_map-append messages history (event ∷ []))
-    ∙ fold-append (act newest key) None (flat_map messages history) (flat_map messages (event ∷ []))
-    ∙ ap (λ h. act_all newest key (act_all newest key None (flat_map messages h)) (flat_map messages (event ∷ []))) (sym (take_all (length history) history (omega arith)))
-    ∙ ap (act_all newest key (cell_at newest history (length history) key)) (append-nil (messages_to key event.call))
-
 cells_more : (history : History) (event : Event) (before after : Cells) (key : List ℕ) →
     ((k : List ℕ) → before k ≡ cell_at newest history (length history) k) → Puts newest before after event.call → after key ≡ cell_at newest (history ++ event ∷ []) (length history + 1) key
-cells_more history event before after key are puts = by event.call puts ∙ sym (cell_more history event key)
+cells_more history event before after key are puts = by event.call puts ∙ sym (cell_at-more newest history event key)
   where
     by : (call : Call) → Puts newest before after call → after key ≡ act_all newest key (cell_at newest history (length history) key) (messages_to key call)
     by (Put other message) p =
         p key ∙ ap (λ cell. cond (same_key other key) (act newest key cell message) cell) (are key)
-        ∙ sym (act_chosen key (cell_at newest history (length history) key) message (same_key other key))
+        ∙ sym (act_all-cond newest key (cell_at newest history (length history) key) message (same_key other key))
     by (Look other) p = p key ∙ are key
     by (Piece span) p = absurd p
 
@@ -143,7 +115,7 @@ one_ran done rows row before after line ran first place caller call answer puts 
     let here : Answered newest h (0 + length rows) row.call row.answer =
     subst (λ n. Answered newest h n row.call row.answer) (count ∙ sym from_zero) (answered_now h before row.call row.answer are answer) in
     let kept : Answered newest (h ++ event_of row ∷ []) (0 + length rows) row.call row.answer =
-    answered_kept h (event_of row) (0 + length rows) row.call row.answer (omega arith) here in
+    Answered-append newest h (event_of row ∷ []) (0 + length rows) row.call row.answer (omega arith) here in
     let more : length (rows ++ row ∷ []) ≡ length h + 1 = length-append rows (row ∷ []) ∙ ap (λ n. n + 1) (sym count) in
     record {
       places = places_push 0 rows row ran.places (place ∙ ap Some (sym from_zero));
