@@ -162,35 +162,35 @@ AreLevels-remove members members' words words' groups groups' limit count number
     let above = above-set members members' limit number false low within h.above in
     elim cleared [
       | Kept some words_are groups_are ↦ rw (words_are, groups_are) record {
-          within = h.within;
-          member_words = low.words ∙ h.member_words;
-          word_words = h.word_words;
-          group_words = h.group_words;
-          above = above;
-          first = Sums-keep members members' words number h.first here low some;
-          second = h.second;
-          counted = counted;
-        }
+        within = h.within;
+        member_words = low.words ∙ h.member_words;
+        word_words = h.word_words;
+        group_words = h.group_words;
+        above = above;
+        first = Sums-keep members members' words number h.first here low some;
+        second = h.second;
+        counted = counted;
+      }
       | Word zero mid some groups_are ↦ rw groups_are record {
-          within = h.within;
-          member_words = low.words ∙ h.member_words;
-          word_words = mid.words ∙ h.word_words;
-          group_words = h.group_words;
-          above = above;
-          first = Sums-clear members members' words words' number h.first low zero mid;
-          second = Sums-keep words words' groups (number / 64) h.second upper mid some;
-          counted = counted;
-        }
+        within = h.within;
+        member_words = low.words ∙ h.member_words;
+        word_words = mid.words ∙ h.word_words;
+        group_words = h.group_words;
+        above = above;
+        first = Sums-clear members members' words words' number h.first low zero mid;
+        second = Sums-keep words words' groups (number / 64) h.second upper mid some;
+        counted = counted;
+      }
       | Group zero mid none top ↦ record {
-          within = h.within;
-          member_words = low.words ∙ h.member_words;
-          word_words = mid.words ∙ h.word_words;
-          group_words = top.words ∙ h.group_words;
-          above = above;
-          first = Sums-clear members members' words words' number h.first low zero mid;
-          second = Sums-clear words words' groups groups' (number / 64) h.second mid none top;
-          counted = counted;
-        }
+        within = h.within;
+        member_words = low.words ∙ h.member_words;
+        word_words = mid.words ∙ h.word_words;
+        group_words = top.words ∙ h.group_words;
+        above = above;
+        first = Sums-clear members members' words words' number h.first low zero mid;
+        second = Sums-clear words words' groups groups' (number / 64) h.second mid none top;
+        counted = counted;
+      }
     ]
 
 -- the place of a number is in each level

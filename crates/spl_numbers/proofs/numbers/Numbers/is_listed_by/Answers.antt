@@ -16,15 +16,17 @@ returns-clause-answer c =
     let h = c.take_out-seen.ensures in
     elim c.if-seen-numbers.branch [
       | then-seen-numbers w ↦
-        let whole : take c.take_out-seen.result c.args.numbers.now ≡ c.args.numbers.now = take_all c.take_out-seen.result c.args.numbers.now (omega arith) in
-        let taken : (n : ℕ) → times c.args.numbers.now n + one_if (has c.take_out-seen.new.self n) ≡ one_if (has c.args.self.now n) = rw whole at h.taken in
-        let count : c.self.inside.count ≡ size_of c.take_out-seen.new.self = rw (← c.self.view_is) c.self.invariant.counted in
-        (λ all. listed c.args.numbers.now c.args.self.now c.take_out-seen.new.self taken (grind (arith, nat_tests)),
-        λ lists. let empty = not_listed c.args.numbers.now c.args.self.now c.take_out-seen.new.self taken lists in grind (arith, nat_tests))
+          let whole : take c.take_out-seen.result c.args.numbers.now ≡ c.args.numbers.now = take_all c.take_out-seen.result c.args.numbers.now (omega arith) in
+          let taken : (n : ℕ) → times c.args.numbers.now n + one_if (has c.take_out-seen.new.self n) ≡ one_if (has c.args.self.now n) = rw whole at h.taken in
+          let count : c.self.inside.count ≡ size_of c.take_out-seen.new.self = rw (← c.self.view_is) c.self.invariant.counted in (
+            λ all. listed c.args.numbers.now c.args.self.now c.take_out-seen.new.self taken (grind (arith, nat_tests)),
+            λ lists. let empty = not_listed c.args.numbers.now c.args.self.now c.take_out-seen.new.self taken lists in grind (arith, nat_tests),
+          )
       | else-seen-numbers w ↦
-        let within : c.take_out-seen.result < length c.args.numbers.now = omega arith in
-        (λ all. absurd (grind (arith, nat_tests)),
-        λ lists. absurd (not_listed_next c.args.numbers.now c.args.self.now c.take_out-seen.new.self c.take_out-seen.result within h.taken (h.next within) lists))
+          let within : c.take_out-seen.result < length c.args.numbers.now = omega arith in (
+            λ all. absurd (grind (arith, nat_tests)),
+            λ lists. absurd (not_listed_next c.args.numbers.now c.args.self.now c.take_out-seen.new.self c.take_out-seen.result within h.taken (h.next within) lists),
+          )
     ]
 
 pub returns-clause-unchanged : goal.returns-clause-unchanged
