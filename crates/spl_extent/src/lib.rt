@@ -1,6 +1,6 @@
 //! The extents of a store, each free, granted to one actor, or held by one branch.
 //!
-//! Which of the free extents a grant gives stays open, so that the pool may come to prefer
+//! Which of the free extents a grant gives is unspecified, so that the pool may come to prefer
 //! neighbours.
 #![tactic(auto)]
 
