@@ -3,7 +3,7 @@ use Rattle.std.proofs.Common.{◌≡◌, ℕ, ◌+◌, ◌<◌, List, length, ma
 use Rattle.std.proofs.lemmas.List.{map-set, take_more, take_more_set, get_or-map, length-map, take_all}
 use Rattle.std.proofs.lemmas.List.Edits.{map_over_more}
 use Rattle.spl_bundle.specs.declared.slots.Slot.{Slot}
-use Rattle.spl_bundle.specs.Numbered.{Bundle, unmarked, without_mark}
+use Rattle.spl_bundle.specs.Numbered.{unmarked, without_mark}
 use Rattle.spl_bundle.specs.Slots.{bundle_in, contents}
 
 module _ (slots copy : List Slot) (i : ℕ) where

@@ -191,6 +191,14 @@ impl Bundles {
         }
     }
 
+    /// Drops every bundle. The next one gets the number `first`.
+    pub fn restart(&mut self, first: u64)
+        ensures { self.new ≡ record { first = first; bundles = [] } }
+    {
+        self.first = first;
+        self.next = first;
+    }
+
     /// Merges the bundles from `first` up to `last`: the last holds the output alone, or nothing, the others
     /// are empty, and none of them keeps its mark. Those that no longer stand are passed over.
     pub fn merge(&mut self, first: u64, last: u64, output: Option<u64>)

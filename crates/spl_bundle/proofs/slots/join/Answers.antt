@@ -1,7 +1,6 @@
-use Rattle.std.proofs.Common.{◌≡◌, ◌≤◌, ◌<◌, ◌+◌, ◌++◌, ℕ, List, [], ap, ap₂, sym, refl, ◌∙◌, length, length-append, arith}
-use Rattle.spl_bundle.specs.declared.bundles.TheConstants.{MAX_BRANCHES}
-use Rattle.spl_bundle.specs.Numbered.{Bundle, next_of, bundle_at, live}
-use Rattle.spl_bundle.proofs.Live.{live_below, live_more, live_none, live_all, length-live_below}
+use Rattle.std.proofs.Common.{◌+◌, ◌++◌, ap, ap₂, sym, refl, ◌∙◌, length, length-append, arith}
+use Rattle.spl_bundle.specs.Numbered.{bundle_at}
+use Rattle.spl_bundle.proofs.Live.{live_below, live_more, live_none, length-live_below}
 use Rattle.spl_bundle.proofs.slots.join.Goals as goal
 
 pub loop-number-init : goal.loop-number-init

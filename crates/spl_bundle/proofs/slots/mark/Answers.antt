@@ -1,6 +1,5 @@
 use Rattle.std.proofs.Common.{ℕ, ◌≡◌, [], get_or, set, ap, sym, ◌∙◌, arith}
 use Rattle.std.proofs.lemmas.List.{map-set, get_or-map}
-use Rattle.std.specs.Prelude.{Option}
 use Rattle.spl_bundle.specs.declared.slots.Slot.{Slot}
 use Rattle.spl_bundle.specs.Numbered.{Bundle, unmarked, owned_by}
 use Rattle.spl_bundle.specs.Slots.{bundle_in, contents}

@@ -1,4 +1,4 @@
-use Rattle.std.proofs.Common.{◌≡◌, ◌++◌, length, map, take, drop}
+use Rattle.std.proofs.Common.{◌≡◌, ◌++◌, map, take, drop}
 use Rattle.std.specs.Prelude.{All}
 use Rattle.spl_bundle.specs.Numbered.{without_mark}
 use Rattle.spl_bundle.specs.Slots.{IsSlot, contents}

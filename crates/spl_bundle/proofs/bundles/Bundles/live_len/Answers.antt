@@ -1,4 +1,4 @@
-use Rattle.std.proofs.Common.{◌≡◌, ◌≤◌, ◌<◌, ◌+◌, [], ap, ◌∙◌, length, length-append, arith}
+use Rattle.std.proofs.Common.{◌≤◌, ◌<◌, [], ap, ◌∙◌, length, length-append, arith}
 use Rattle.std.proofs.lemmas.List.Elements.{All-get_or}
 use Rattle.spl_bundle.specs.Numbered.{Bundle, unmarked, next_of, bundle_at}
 use Rattle.spl_bundle.specs.declared.bundles.TheConstants.{MAX_BRANCHES}

@@ -1,4 +1,4 @@
-use Rattle.std.proofs.Common.{◌≡◌, ◌-◌, ◌+◌, ◌<◌, ◌≤◌, [], ℕ, refl, ap, ◌∙◌, arith}
+use Rattle.std.proofs.Common.{◌≡◌, ◌-◌, ◌+◌, ◌<◌, ◌≤◌, ℕ, refl, ap, ◌∙◌, arith}
 use Rattle.spl_bundle.specs.Numbered.{Numbered, next_of, marked}
 use Rattle.spl_bundle.specs.Slots.{contents, window}
 use Rattle.spl_bundle.proofs.Windows.{length-window}
