@@ -3,12 +3,9 @@ ghost use Rattle.spl_branch.specs.Branch.{IsBranch, shown, table_of};
 ghost use Rattle.spl_branch.specs.Reading.{admits, reach_of};
 
 use spl_message::{Content, Key};
-use spl_port::Seal;
+use spl_port::{EXTENT_PAGES, Seal};
 use spl_quotient::Filter;
 use std::marker::Model;
-
-/// How many pages an extent has.
-pub(crate) const EXTENT_PAGES: u32 = 32;
 
 /// What a branch is made of, as its builder has it.
 #[derive(Drop)]
@@ -79,8 +76,6 @@ pub(crate) fn is_admitted(filter: &Filter, key: &Key) -> bool
 
 impl<S: Seal> Content for Branch<S> {
     ghost TELLS = { S.TELLS };
-
-    const TELLS: bool = S::TELLS;
 
     ghost table = { table_of };
 

@@ -9,10 +9,10 @@ ghost use Rattle.spl_branch.specs.Reading.{HasBranchCause, OnlyReads, ReadsNone,
 ghost use Rattle.spl_branch.specs.Visiting.{GoesBelow, HasVisitCause, visit_of};
 
 use crate::BranchFault;
-use crate::branch::{Branch, EXTENT_PAGES, is_admitted};
+use crate::branch::{Branch, is_admitted};
 use crate::visit::Visit;
 use spl_message::{Key, Message};
-use spl_port::{Pager, Port, Seal};
+use spl_port::{EXTENT_PAGES, Pager, Port, Seal};
 
 impl<S: Seal> Branch<S> {
     /// What the page says of the key.

@@ -1,4 +1,4 @@
-ghost use Rattle.std.specs.Prelude.{◌≡◌, ℕ, ◌*◌, ◌<◌, ◌≤◌, ◌^◌, ◌↔◌, ◌++◌, [], ◌∷◌, true, length, map, Some, IsTrue, IfOk, OnOk, OnErr};
+ghost use Rattle.std.specs.Prelude.{◌≡◌, ℕ, ◌+◌, ◌*◌, ◌<◌, ◌≤◌, ◌^◌, ◌↔◌, ◌++◌, [], ◌∷◌, true, length, map, Some, IsTrue, IfOk, OnOk, OnErr};
 ghost use Rattle.std.specs.List.{slice_get};
 ghost use Rattle.std.specs.Option.{option_map};
 ghost use Rattle.spl_branch.specs.Pages.{AreParts, AreTold, page_total};
@@ -7,13 +7,10 @@ ghost use Rattle.spl_port.specs.Seal.{empty_draft};
 ghost use Rattle.spl_build.specs.Written.{Appends, IsFull, IsPages, Opens, begun_part, next_place};
 
 use spl_message::NoMemory;
-use spl_port::{At, PageBytes, Port, PortFault, Seal};
+use spl_port::{At, EXTENT_PAGES, PageBytes, Port, PortFault, Seal};
 use std::alloc::Global;
 use std::marker::Model;
 use std::mem;
-
-/// How many pages an extent has.
-const EXTENT_PAGES: u32 = 32;
 
 /// The pages of a branch while they are written.
 #[derive(Drop)]
@@ -136,6 +133,8 @@ impl<P: Port> Pages<P> {
         requires { page_total self.old.parts < 32 * length self.old.extents }
         ensures ok { OnOk result (Appends P.Seal.TELLS self.old self.new page.now) }
         ensures counts { WritesOne (P.counts port.old) (P.counts port.new) }
+        ensures ok_count { OnOk result ((P.counts port.new).writes ≡ (P.counts port.old).writes + 1) }
+        ensures ok_faults { OnOk result ((P.counts port.new).faults ≡ (P.counts port.old).faults) }
         ensures cause { HasCause (P.counts port.old) (P.counts port.new) result }
     {
         let mut begun = self.front.open(port, self.begun.take())?;
@@ -152,6 +151,7 @@ impl<P: Port> Pages<P> {
         ensures sound { AreParts self.old.number self.old.extents self.old.parts }
         ensures most { length self.old.extents ≤ 65536 }
         ensures counts { MovesNone (P.counts port.old) (P.counts port.new) }
+        ensures ok_faults { OnOk result ((P.counts port.new).faults ≡ (P.counts port.old).faults) }
         ensures cause { HasCause (P.counts port.old) (P.counts port.new) result }
     {
         let alloc = *self.front.extents.allocator();
@@ -178,6 +178,7 @@ impl<P: Port> Front<P> {
             (map P.Seal.means self.new.seals.items) (P.drafts next.draft) next.pages) }
         ensures err { OnErr result (self.new.seals.items ≡ self.old.seals.items) }
         ensures counts { MovesNone (P.counts port.old) (P.counts port.new) }
+        ensures ok_faults { OnOk result ((P.counts port.new).faults ≡ (P.counts port.old).faults) }
         ensures cause { HasCause (P.counts port.old) (P.counts port.new) result }
     {
         match begun {

@@ -1,3 +1,6 @@
+/// How many pages an extent has.
+pub const EXTENT_PAGES: u32 = 32;
+
 /// The place of a page, and which kind of page is wanted there.
 #[derive(Clone, Copy, Debug, PartialEq, Eq, Hash)]
 pub struct At {

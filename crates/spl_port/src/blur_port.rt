@@ -81,6 +81,7 @@ impl Port for BlurPort {
         ensures err { OnErr result (meaning false draft.new ≡ meaning false draft.old) }
         ensures counts { WritesOne self.old.counts self.new.counts }
         ensures ok_count { OnOk result (self.new.counts.writes ≡ self.old.counts.writes + 1) }
+        ensures ok_faults { OnOk result (self.new.counts.faults ≡ self.old.counts.faults) }
         ensures spent { IsSpent self.old.counts.writes → result ≡ Err PortFault.NoMemory }
         ensures cause { HasCause self.old.counts self.new.counts result }
     {
@@ -99,6 +100,7 @@ impl Port for BlurPort {
 
         // What each port keeps.
         ensures ok { IfOk result (λ seal. meaning false seal ≡ meaning false draft) }
+        ensures ok_faults { OnOk result (self.new.counts.faults ≡ self.old.counts.faults) }
         ensures counts { MovesNone self.old.counts self.new.counts }
         ensures cause { HasCause self.old.counts self.new.counts result }
     {
@@ -121,6 +123,7 @@ impl Port for BlurPort {
         ensures err { OnErr result (self.new.counts.last ≡ self.old.counts.last) }
         ensures counts { ReadsOne self.old.counts self.new.counts }
         ensures ok_count { OnOk result (self.new.counts.reads ≡ self.old.counts.reads + 1) }
+        ensures ok_faults { OnOk result (self.new.counts.faults ≡ self.old.counts.faults) }
         ensures spent { IsSpent self.old.counts.reads → result ≡ Err PortFault.NoMemory }
         ensures cause { HasCause self.old.counts self.new.counts result }
     {

@@ -35,8 +35,6 @@ impl BlurSeal {
 }
 
 impl Seal for BlurSeal {
-    const TELLS: bool = false;
-
     ghost TELLS = { false };
 
     ghost means = { λ s. meaning false s };

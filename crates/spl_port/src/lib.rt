@@ -28,7 +28,7 @@ mod std_source;
 mod tally;
 mod whole;
 
-pub use at::At;
+pub use at::{At, EXTENT_PAGES};
 pub use blur::{Blur, Patches};
 pub use blur_port::BlurPort;
 pub use blur_seal::BlurSeal;

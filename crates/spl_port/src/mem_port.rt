@@ -114,6 +114,7 @@ impl Port for MemPort {
         ensures err { OnErr result (meaning true draft.new ≡ meaning true draft.old) }
         ensures counts { WritesOne self.old.counts self.new.counts }
         ensures ok_count { OnOk result (self.new.counts.writes ≡ self.old.counts.writes + 1) }
+        ensures ok_faults { OnOk result (self.new.counts.faults ≡ self.old.counts.faults) }
         ensures spent { IsSpent self.old.counts.writes → result ≡ Err PortFault.NoMemory }
         ensures cause { HasCause self.old.counts self.new.counts result }
     {
@@ -136,6 +137,7 @@ impl Port for MemPort {
 
         // What each port keeps.
         ensures ok { IfOk result (λ seal. meaning true seal ≡ meaning true draft) }
+        ensures ok_faults { OnOk result (self.new.counts.faults ≡ self.old.counts.faults) }
         ensures counts { MovesNone self.old.counts self.new.counts }
         ensures cause { HasCause self.old.counts self.new.counts result }
     {
@@ -161,6 +163,7 @@ impl Port for MemPort {
         ensures err { OnErr result (self.new.counts.last ≡ self.old.counts.last) }
         ensures counts { ReadsOne self.old.counts self.new.counts }
         ensures ok_count { OnOk result (self.new.counts.reads ≡ self.old.counts.reads + 1) }
+        ensures ok_faults { OnOk result (self.new.counts.faults ≡ self.old.counts.faults) }
         ensures spent { IsSpent self.old.counts.reads → result ≡ Err PortFault.NoMemory }
         ensures cause { HasCause self.old.counts self.new.counts result }
     {

@@ -34,8 +34,6 @@ impl MemSeal {
 }
 
 impl Seal for MemSeal {
-    const TELLS: bool = true;
-
     ghost TELLS = { true };
 
     ghost means = { λ s. meaning true s };

@@ -56,7 +56,8 @@ impl<T: Drop> From<AllocFailed<T>> for PortFault {
 
 /// The device of one thread: it writes drafts page by page, seals them, and reads the pages of seals.
 ///
-/// A port keeps its allocator. Of its counts none ever falls.
+/// A port keeps its allocator. Of its counts none ever falls. A call that succeeds leaves the count of faults, and one that fails
+/// raises it by at most one.
 pub trait Port: Drop {
     /// Pages that are still written.
     type Draft: Drop;
@@ -82,12 +83,14 @@ pub trait Port: Drop {
         ensures err { OnErr result (drafts draft.new ≡ drafts draft.old) }
         ensures counts { WritesOne (counts self.old) (counts self.new) }
         ensures ok_count { OnOk result ((counts self.new).writes ≡ (counts self.old).writes + 1) }
+        ensures ok_faults { OnOk result ((counts self.new).faults ≡ (counts self.old).faults) }
         ensures spent { IsSpent (counts self.old).writes → result ≡ Err PortFault.NoMemory }
         ensures cause { HasCause (counts self.old) (counts self.new) result };
 
     /// Ends the draft. It is gone also where the call fails.
     fn seal(&mut self, draft: Self::Draft) -> Result<Self::Seal, PortFault>
         ensures ok { IfOk result (λ seal. Self.Seal.means seal ≡ drafts draft) }
+        ensures ok_faults { OnOk result ((counts self.new).faults ≡ (counts self.old).faults) }
         ensures counts { MovesNone (counts self.old) (counts self.new) }
         ensures cause { HasCause (counts self.old) (counts self.new) result };
 
@@ -100,6 +103,7 @@ pub trait Port: Drop {
         ensures err { OnErr result ((counts self.new).last ≡ (counts self.old).last) }
         ensures counts { ReadsOne (counts self.old) (counts self.new) }
         ensures ok_count { OnOk result ((counts self.new).reads ≡ (counts self.old).reads + 1) }
+        ensures ok_faults { OnOk result ((counts self.new).faults ≡ (counts self.old).faults) }
         ensures spent { IsSpent (counts self.old).reads → result ≡ Err PortFault.NoMemory }
         ensures cause { HasCause (counts self.old) (counts self.new) result };
 

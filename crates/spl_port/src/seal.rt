@@ -8,9 +8,8 @@ use crate::{At, PAGE_BYTES};
 ///
 /// A seal may be read through any port of the same kind as the one that made it.
 pub trait Seal: Send + Sync + Drop {
-    /// Whether the seal tells its pages. Each seal tells its places.
-    const TELLS: bool;
-
+    /// Whether reads of its pages are known to give them as they were written. Each seal tells its places. There is no such
+    /// number at run time, so code that serves every device serves both kinds alike.
     ghost TELLS: { Bool };
 
     /// What was sealed.

@@ -15,8 +15,6 @@ struct Bare {
 impl Content for Bare {
     ghost TELLS = { false };
 
-    const TELLS: bool = false;
-
     ghost table = { λ _. [] };
 
     ghost number = { λ bare. bare.number };
