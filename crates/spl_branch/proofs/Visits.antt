@@ -7,7 +7,6 @@ use Rattle.std.proofs.lemmas.Option.{slice_get_within}
 use Rattle.spl_message.specs.declared.message.Message.{Message}
 use Rattle.spl_message.specs.Entries.{message_in}
 use Rattle.spl_port.specs.declared.at.At.{At}
-use Rattle.spl_port.specs.declared.damaged.Damaged.{Damaged as Damage}
 use Rattle.spl_port.specs.Counts.{Counts, Shown}
 use Rattle.spl_port.specs.Page.{page_fault}
 use Rattle.spl_port.specs.Seal.{Allows, Sealed, page_count, place}

@@ -1,4 +1,4 @@
-use Rattle.std.proofs.Common.{◌≡◌, ℕ, ap, subst, sym}
+use Rattle.std.proofs.Common.{◌≡◌, ℕ, subst}
 use Rattle.std.specs.Arc.{arc_value}
 use Rattle.spl_page.specs.AnyPage.{shown_of}
 use Rattle.spl_page.specs.declared.any_page.AnyPage.{AnyPage}
