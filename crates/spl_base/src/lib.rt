@@ -1,11 +1,16 @@
-//! What every layer of the store shares: the want of memory.
+//! What every layer of the store shares: running out of memory, and how many actors there are.
 #![tactic(auto)]
 
 use std::alloc::{AllocError, AllocFailed};
 use std::error::Error;
 use std::fmt;
 
-/// Memory ran out. It is the one answer that no clause ties to a cause: nothing of the caller's was
+/// The actors' numbers are below this one. An actor is a caller or a worker of a store.
+pub const ACTORS: u32 = 32;
+
+const _: () = prove!(ACTORS == 32);
+
+/// Memory ran out. It is the only answer without a proved cause: nothing of the caller's was
 /// lost, and the same call may succeed later.
 #[derive(Clone, Copy, Debug, PartialEq, Eq, Hash)]
 pub struct NoMemory;

@@ -5,7 +5,7 @@ use Rattle.spl_message.specs.declared.call.Call.{Call}
 use Rattle.spl_message.specs.declared.call.Call.TheVariants.{Put, Look, Piece}
 use Rattle.spl_message.specs.Cell.{Cell}
 use Rattle.spl_message.specs.Key.{same_key}
-use Rattle.spl_message.specs.Message.{act_all}
+use Rattle.spl_message.specs.Message.{HoldsValue, act_all}
 use Rattle.spl_message.specs.Rule.{Rule}
 
 -- a call with the actor that made it
@@ -26,3 +26,9 @@ messages_to key (Piece span) = []
 -- the cell of a key at a place: what the messages of the calls above it make of no value, in their order
 abbrev pub cell_at : Rule → History → ℕ → List ℕ → Cell
 cell_at rule history place key = act_all rule key None (flat_map (λ event. messages_to key event.call) (take place history))
+
+-- what a call holds of a value
+abbrev pub CallHoldsValue : Call → Type 0
+CallHoldsValue (Put key message) = HoldsValue message
+CallHoldsValue (Look key) = ⊥
+CallHoldsValue (Piece span) = ⊥

@@ -1,6 +1,8 @@
 pub mod Answer
 pub mod Bound
 pub mod Cell
+pub mod Entries
+pub mod Fnv
 pub mod History
 pub mod Key
 pub mod Message

@@ -39,3 +39,9 @@ IsUpdate None = ⊥
 IsUpdate (Some (Insert value)) = ⊥
 IsUpdate (Some Delete) = ⊥
 IsUpdate (Some (Update operand)) = Unit {0}
+
+-- an insert and an update hold a value, which lies in memory of its own
+abbrev pub HoldsValue : Message → Type 0
+HoldsValue (Insert value) = Unit {0}
+HoldsValue (Update operand) = Unit {0}
+HoldsValue Delete = ⊥

@@ -1,5 +1,5 @@
 -- Spans of keys.
-use Rattle.std.specs.Prelude.{◌≡◌, ℕ, Bool, true, ◌&&◌, not, List, Option, Some, None}
+use Rattle.std.specs.Prelude.{◌≡◌, ℕ, Bool, true, false, ◌&&◌, not, List, Option, Some, None, if◌then◌else◌}
 use Rattle.spl_message.specs.declared.span.Span.{Span}
 use Rattle.spl_message.specs.Key.{is_below}
 
@@ -19,3 +19,15 @@ in_span span key = is_from span.from key && is_before span.to key
 
 abbrev pub InSpan : Span → List ℕ → Type 0
 InSpan span key = in_span span key ≡ true
+
+-- an end that is not above the start leaves no key
+abbrev pub are_empty : Option (List ℕ) → Option (List ℕ) → Bool
+are_empty None end = false
+are_empty (Some start) None = false
+are_empty (Some start) (Some end) = not (is_below start end)
+
+-- the end that comes first
+abbrev pub first_end : Option (List ℕ) → Option (List ℕ) → Option (List ℕ)
+first_end None other = other
+first_end (Some end) None = Some end
+first_end (Some end) (Some other) = if is_below other end then Some other else Some end

@@ -3,11 +3,15 @@ ghost use Rattle.std.specs.Ordering.{nat_cmp};
 ghost use Rattle.std.specs.Cmp.{partial_equiv_from_equiv};
 ghost use Rattle.std.specs.Cmp.Lexicographic.{pointwise, slice_cmp, nat_list_eq_equiv, nat_list_cmp_total, texts_po, texts_ties};
 ghost use Rattle.spl_message.specs.Bound.{IsBound, IsLeastAbove};
+ghost use Rattle.spl_message.specs.Key.{is_below};
 
 use crate::key::Key;
-use crate::room::{front, room_of};
+use crate::room::{compare, front, room_of};
 use std::cmp::Ordering;
 use std::marker::Model;
+
+/// The greatest number of bytes of a bound.
+pub const BOUND_LIMIT: usize = 65;
 
 /// An end of keys that is not included: 1 to 65 bytes, ordered by their bytes as keys are. A clause sees the list of the
 /// bytes.
@@ -15,7 +19,7 @@ use std::marker::Model;
 /// The bytes stand in the value itself, so making, copying and comparing a bound take no memory.
 #[derive(Clone, Copy, Debug)]
 pub struct Bound {
-    room: [u8; 65],
+    room: [u8; BOUND_LIMIT],
     len: u8,
 }
 
@@ -44,7 +48,7 @@ impl Bound {
     {
         let bytes = key.bytes();
         Bound {
-            room: room_of::<65>(bytes),
+            room: room_of::<BOUND_LIMIT>(bytes),
             len: bytes.len() as u8,
         }
     }
@@ -55,7 +59,7 @@ impl Bound {
         ensures least { IsLeastAbove key.now result }
     {
         let bytes = key.bytes();
-        let after = room_of::<65>(bytes);
+        let after = room_of::<BOUND_LIMIT>(bytes);
         Bound {
             room: after,
             len: bytes.len() as u8 + 1,
@@ -70,12 +74,27 @@ impl Bound {
         Key::read(self.bytes()).ok()
     }
 
+    /// Whether the key is below the bound.
+    pub fn is_above(&self, key: &Key) -> bool
+        ensures { result ≡ is_below key.now self.now }
+    {
+        key.bytes().cmp(&self.bytes()) == Ordering::Less
+    }
+
     /// The bytes.
     pub fn bytes(&self) -> &[u8]
         ensures value { result.now ≡ self.now }
         ensures is_bound { IsBound self.now }
     {
         front(&self.room, self.len as usize)
+    }
+
+    /// How the bytes compare to the other's.
+    #[inline]
+    fn compare(&self, other: &Bound) -> Ordering
+        ensures { result ≡ slice_cmp nat_cmp self.now other.now }
+    {
+        compare(&self.room, self.len, &other.room, other.len)
     }
 }
 
@@ -85,7 +104,7 @@ impl PartialEq for Bound {
     ghost laws = { partial_equiv_from_equiv nat_list_eq_equiv };
 
     fn eq(&self, other: &Bound) -> bool {
-        self.bytes() == other.bytes()
+        self.compare(other).is_eq()
     }
 }
 
@@ -113,6 +132,6 @@ impl Ord for Bound {
     ghost matches_eq = { texts_ties };
 
     fn cmp(&self, other: &Bound) -> Ordering {
-        self.bytes().cmp(&other.bytes())
+        self.compare(other)
     }
 }

@@ -1,4 +1,5 @@
-ghost use Rattle.std.specs.Prelude.{◌≡◌, IfOk};
+ghost use Rattle.std.specs.Prelude.{◌≡◌, IfOk, IsOk};
+ghost use Rattle.spl_message.specs.History.{CallHoldsValue};
 
 use crate::key::Key;
 use crate::message::Message;
@@ -17,9 +18,10 @@ pub enum Call {
 }
 
 impl Call {
-    /// An equal call in memory of its own.
+    /// An equal call in memory of its own. Only a value takes memory: a delete, a lookup and a piece take none.
     pub fn copy(&self) -> Result<Call, NoMemory>
         ensures ok { IfOk result (λ call. call ≡ self.now) }
+        ensures free { ¬ (CallHoldsValue self.now) → IsOk result }
     {
         match self {
             Call::Put(key, message) => Ok(Call::Put(*key, message.copy()?)),

@@ -1,13 +1,14 @@
-ghost use Rattle.std.specs.Prelude.{◌≡◌, ℕ, Bool, true, List, length};
-ghost use Rattle.spl_message.specs.Table.{Table, IsTable, cuts_of};
+ghost use Rattle.std.specs.Prelude.{◌≡◌, ℕ, Bool, true, List};
+ghost use Rattle.spl_message.specs.Table.{Table, IsTable, cuts_of, key_count};
 
+use crate::hash::HashedKey;
 use crate::key::Key;
 
 /// A branch, as others see it: a table that never changes, with a number, and extents of the file that hold it.
 ///
 /// Where the ghost member `TELLS` is true the branch means its table. Where it is false the device may give anything for its
-/// pages, and no clause speaks of what they hold. There is no such number at run time, so code that serves every device serves
-/// both kinds alike.
+/// pages, and no clause speaks of what they hold. No code can ask
+/// which it is, so that what serves one kind of device serves the other.
 pub trait Content: Drop {
     ghost TELLS: { Bool };
 
@@ -34,7 +35,7 @@ pub trait Content: Drop {
     /// How many keys it has.
     fn entries(&self) -> u64
         ensures value { result ≡ entries self.now }
-        ensures told { TELLS ≡ true → IsTable (table self.now) × (result ≡ length (table self.now)) };
+        ensures told { TELLS ≡ true → IsTable (table self.now) × (result ≡ key_count (table self.now)) };
 
     /// The keys at which it may be cut: every 1,024th, in order, but for the first key of all.
     fn cuts(&self) -> &[Key]
@@ -42,6 +43,6 @@ pub trait Content: Drop {
         ensures told { TELLS ≡ true → result.now ≡ cuts_of (table self.now) };
 
     /// At most how many pages a lookup of the key reads. Takes no memory.
-    fn reach(&self, key: &Key) -> u32
+    fn reach(&self, key: &HashedKey) -> u32
         ensures { result ≡ reach self.now key.now };
 }

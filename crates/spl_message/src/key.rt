@@ -4,7 +4,7 @@ ghost use Rattle.std.specs.Cmp.{on_equiv, on_total, on_po, on_per, partial_equiv
 ghost use Rattle.std.specs.Cmp.Lexicographic.{pointwise, slice_cmp, nat_list_eq_equiv, nat_list_cmp_total, texts_po, texts_ties};
 ghost use Rattle.spl_message.specs.Key.{IsKey};
 
-use crate::room::{front, room_of};
+use crate::room::{compare, front, room_of};
 use std::cmp::Ordering;
 use std::error::Error;
 use std::fmt;
@@ -19,7 +19,7 @@ pub const KEY_LIMIT: usize = 64;
 /// The bytes stand in the value itself, so reading, copying and comparing a key take no memory.
 #[derive(Clone, Copy, Debug)]
 pub struct Key {
-    room: [u8; 64],
+    room: [u8; KEY_LIMIT],
     len: u8,
 }
 
@@ -77,7 +77,7 @@ impl Key {
             return Err(KeyFault::Long { len: len as u64 });
         }
         Ok(Key {
-            room: room_of::<64>(bytes),
+            room: room_of::<KEY_LIMIT>(bytes),
             len: len as u8,
         })
     }
@@ -89,6 +89,14 @@ impl Key {
     {
         front(&self.room, self.len as usize)
     }
+
+    /// How the bytes compare to the other's.
+    #[inline]
+    fn compare(&self, other: &Key) -> Ordering
+        ensures { result ≡ slice_cmp nat_cmp self.now other.now }
+    {
+        compare(&self.room, self.len, &other.room, other.len)
+    }
 }
 
 impl PartialEq for Key {
@@ -97,7 +105,7 @@ impl PartialEq for Key {
     ghost laws = { partial_equiv_from_equiv nat_list_eq_equiv };
 
     fn eq(&self, other: &Key) -> bool {
-        self.bytes() == other.bytes()
+        self.compare(other).is_eq()
     }
 }
 
@@ -125,6 +133,6 @@ impl Ord for Key {
     ghost matches_eq = { texts_ties };
 
     fn cmp(&self, other: &Key) -> Ordering {
-        self.bytes().cmp(&other.bytes())
+        self.compare(other)
     }
 }

@@ -4,13 +4,14 @@
 //! the messages that the calls above that place put to it (`specs/History.antt`), and every layer answers by that
 //! fold (`specs/Answer.antt`). What an update makes of a value is the rule of a merge law (`specs/Rule.antt`), by
 //! which several messages of a key become one (`combine`) and a last one becomes a value (`settle`). The layers below
-//! a call hold tables of messages (`specs/Table.antt`), and a branch is one that others can ask (`Content`).
+//! a call hold tables of messages (`specs/Table.antt`), which lie in order as entries (`specs/Entries.antt`), and a branch is one that others can ask (`Content`).
 #![tactic(auto)]
 
 mod answer;
 mod bound;
 mod call;
 mod content;
+mod hash;
 mod key;
 mod law;
 mod merge;
@@ -25,15 +26,16 @@ pub use answer::{Answer, Cause};
 pub use bound::Bound;
 pub use call::Call;
 pub use content::Content;
-pub use key::{Key, KeyFault};
+pub use hash::{HashedKey, fnv};
+pub use key::{KEY_LIMIT, Key, KeyFault};
 pub use law::MergeLaw;
-pub use merge::{combine, settle};
+pub use merge::{combine, combine_owned, settle};
 pub use message::Message;
 pub use newest::Newest;
 pub use pairs::Pairs;
 pub use span::Span;
 pub use spl_base::NoMemory;
-pub use value::{Value, ValueFault};
+pub use value::{VALUE_LIMIT, Value, ValueFault};
 
 #[cfg(test)]
 mod tests;

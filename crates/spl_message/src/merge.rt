@@ -1,5 +1,5 @@
 //! One message in the place of two, and the value that a last one comes to.
-ghost use Rattle.std.specs.Prelude.{◌≡◌, IfOk, IsOk, None};
+ghost use Rattle.std.specs.Prelude.{◌≡◌, IfOk, IsOk, None, Some};
 ghost use Rattle.spl_message.specs.Cell.{Cell};
 ghost use Rattle.spl_message.specs.Message.{act, combine, settle, IsUpdate};
 
@@ -39,6 +39,39 @@ pub fn combine<L: MergeLaw>(
         }
         Message::Update(older) => {
             let joined = law.join(alloc, key, older, operand)?;
+            Ok(Message::Update(joined))
+        }
+    }
+}
+
+/// The message that stands for both, as `combine` gives it, for who owns both: a newer insert or delete is handed on as it is, and takes no
+/// memory.
+pub fn combine_owned<L: MergeLaw>(
+    alloc: Global,
+    law: &L,
+    key: &Key,
+    older: Message,
+    newer: Message,
+) -> Result<Message, NoMemory>
+    requires { L.ready law.now }
+    ensures value { IfOk result (λ message. message ≡ combine (L.rule law.now) key.now older newer) }
+    ensures free { ¬ (IsUpdate (Some newer)) → IsOk result }
+{
+    let operand = match newer {
+        Message::Update(operand) => operand,
+        Message::Insert(_) | Message::Delete => return Ok(newer),
+    };
+    match older {
+        Message::Insert(value) => {
+            let value = law.apply(alloc, key, Some(&value), &operand)?;
+            Ok(Message::Insert(value))
+        }
+        Message::Delete => {
+            let value = law.apply(alloc, key, None, &operand)?;
+            Ok(Message::Insert(value))
+        }
+        Message::Update(older) => {
+            let joined = law.join(alloc, key, &older, &operand)?;
             Ok(Message::Update(joined))
         }
     }

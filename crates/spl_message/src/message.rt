@@ -1,4 +1,5 @@
-ghost use Rattle.std.specs.Prelude.{◌≡◌, IfOk};
+ghost use Rattle.std.specs.Prelude.{◌≡◌, IfOk, IsOk};
+ghost use Rattle.spl_message.specs.Message.{HoldsValue};
 
 use crate::value::Value;
 use spl_base::NoMemory;
@@ -15,9 +16,10 @@ pub enum Message {
 }
 
 impl Message {
-    /// An equal message in memory of its own.
+    /// An equal message in memory of its own. A delete takes none.
     pub fn copy(&self) -> Result<Message, NoMemory>
         ensures ok { IfOk result (λ message. message ≡ self.now) }
+        ensures free { ¬ (HoldsValue self.now) → IsOk result }
     {
         match self {
             Message::Insert(value) => Ok(Message::Insert(value.copy()?)),

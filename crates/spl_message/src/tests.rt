@@ -135,6 +135,45 @@ fn pairs_are_given_back_as_they_came(rt: HostRuntime) -> Result<(), Fail> {
     Ok(())
 }
 
+#[test]
+fn a_key_is_hashed_once_for_all_filters(rt: HostRuntime) -> Result<(), Fail> {
+    let key = Key::read(b"a")?;
+    let hashed = HashedKey::of(&key);
+    assert_eq!(rt; hashed.hash(), 0xaf63dc4c8601ec8c);
+    assert_eq!(rt; *hashed.key(), key);
+    assert_eq!(rt; fnv(b""), 0xcbf29ce484222325);
+    Ok(())
+}
+
+#[test]
+fn a_span_ends_at_the_first_of_its_ends(rt: HostRuntime) -> Result<(), Fail> {
+    let a = Key::read(b"a")?;
+    let b = Key::read(b"b")?;
+    let c = Key::read(b"c")?;
+    let span = Span {
+        from: Some(b),
+        to: None,
+    };
+    assert!(rt; !span.is_empty());
+    let short = span.with_end(&Some(Bound::of(&c)));
+    assert_eq!(rt; short.to, Some(Bound::of(&c)));
+    assert!(rt; Bound::of(&c).is_above(&b) && !Bound::of(&c).is_above(&c));
+    assert!(rt; short.with_end(&Some(Bound::of(&a))).is_empty());
+    assert!(rt; !short.with_end(&Some(Bound::after(&b))).is_empty());
+    Ok(())
+}
+
+#[test]
+fn owned_messages_combine_as_lent_ones(rt: HostRuntime) -> Result<(), Fail> {
+    let alloc = rt.alloc();
+    let key = Key::read(b"a")?;
+    let older = Message::Update(value(alloc, "3")?);
+    let newer = Message::Update(value(alloc, "4")?);
+    let lent = combine(alloc, &Newest, &key, &older, &newer)?;
+    assert!(rt; combine_owned(alloc, &Newest, &key, older, newer)? == lent);
+    Ok(())
+}
+
 /// A branch of one key, which tells.
 #[derive(Drop)]
 struct Leaf {
@@ -145,7 +184,7 @@ struct Leaf {
 impl Content for Leaf {
     ghost TELLS = { true };
 
-    ghost table = { λ leaf. leaf.entry ∷ [] };
+    ghost table = { λ leaf. record { messages = leaf.entry ∷ [] } };
 
     ghost number = { λ _. 7 };
 
@@ -173,7 +212,7 @@ impl Content for Leaf {
         &[]
     }
 
-    fn reach(&self, _key: &Key) -> u32 {
+    fn reach(&self, _key: &HashedKey) -> u32 {
         1
     }
 }
@@ -185,7 +224,7 @@ fn shape<B: Content>(branch: &B, key: &Key) -> (u64, usize, u64, usize, u32) {
         branch.extents().len(),
         branch.entries(),
         branch.cuts().len(),
-        branch.reach(key),
+        branch.reach(&HashedKey::of(key)),
     )
 }
 

@@ -12,3 +12,4 @@ pub mod Port
 pub mod Seal
 pub mod StdSink
 pub mod StdSource
+pub mod Streams

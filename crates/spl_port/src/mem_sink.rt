@@ -1,6 +1,6 @@
-ghost use Rattle.std.specs.Prelude.{◌≡◌, ◌≤◌, ◌<◌, ◌↔◌, ◌++◌, ◌-◌, [], Some, IsTrue, IsErr, IfOk, OnOk, OnErr, true, false, length, take, min};
+ghost use Rattle.std.specs.Prelude.{◌≡◌, ◌≤◌, ◌<◌, ◌↔◌, ◌++◌, ◌-◌, [], IsTrue, IsErr, IfOk, OnOk, OnErr, true, false, length, take, min};
 ghost use Rattle.spl_port.specs.Bytes.{Takes};
-ghost use Rattle.spl_port.specs.Counts.{Rose};
+ghost use Rattle.spl_port.specs.Counts.{raised_count};
 
 use crate::schedule::Schedule;
 use crate::{Failed, Sink};
@@ -55,16 +55,14 @@ impl MemSink {
 
 impl Sink for MemSink {
     ghost use Rattle.spl_port.specs.Plan.{after_call};
-    ghost use Rattle.spl_port.specs.MemSink.{refuses};
+    ghost use Rattle.spl_port.specs.MemSink.{refuses, output_of};
 
-    ghost held = { λ s. Some s.held };
-
-    ghost faults = { λ s. s.plan.faults };
+    ghost means = { λ s. output_of s };
 
     /// Takes the first bytes that fit. None of some is a fault.
     fn write(&mut self, piece: &[u8]) -> Result<usize, Failed>
         ensures refused { IsErr result ↔ IsTrue (refuses self.old piece.now) }
-        ensures count { IfOk result (λ n. n ≡ min (length piece.now) self.old.room) }
+        ensures taken { IfOk result (λ n. n ≡ min (length piece.now) self.old.room) }
         ensures after_ok { IfOk result (λ n. self.new ≡ record {
           held = self.old.held ++ take n piece.now;
           room = self.old.room - n;
@@ -75,11 +73,12 @@ impl Sink for MemSink {
         // What each sink keeps.
         ensures bound { IfOk result (λ n. n ≤ length piece.now) }
         ensures some { IfOk result (λ n. 0 < length piece.now → 0 < n) }
-        ensures ok { IfOk result (λ n. Takes (Some self.old.held) (Some self.new.held) (take n piece.now)) }
-        ensures ok_count { OnOk result (self.new.plan.faults ≡ self.old.plan.faults) }
-        ensures err { OnErr result (Some self.new.held ≡ Some self.old.held) }
-        ensures failed { OnErr result (Rose self.old.plan.faults self.new.plan.faults) }
-        ensures never_falls { self.old.plan.faults ≤ self.new.plan.faults }
+        ensures ok { IfOk result (λ n. Takes (output_of self.old).held (output_of self.new).held (take n piece.now)) }
+        ensures count { (output_of self.new).writes ≡ raised_count (output_of self.old).writes }
+        ensures ok_count { OnOk result ((output_of self.new).faults ≡ (output_of self.old).faults) }
+        ensures err { OnErr result ((output_of self.new).held ≡ (output_of self.old).held) }
+        ensures failed { OnErr result ((output_of self.new).faults ≡ raised_count (output_of self.old).faults) }
+        ensures never_falls { (output_of self.old).faults ≤ (output_of self.new).faults }
     {
         let taken = piece.len().min(self.room);
         let refused = self.schedule.fails() || (taken == 0 && !piece.is_empty());

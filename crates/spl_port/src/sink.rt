@@ -1,26 +1,25 @@
-ghost use Rattle.std.specs.Prelude.{◌≡◌, ◌≤◌, ◌<◌, ℕ, List, Option, length, take, IfOk, OnOk, OnErr};
+ghost use Rattle.std.specs.Prelude.{◌≡◌, ◌≤◌, ◌<◌, length, take, IfOk, OnOk, OnErr};
 ghost use Rattle.spl_port.specs.Bytes.{Takes};
-ghost use Rattle.spl_port.specs.Counts.{Rose};
+ghost use Rattle.spl_port.specs.Counts.{raised_count};
+ghost use Rattle.spl_port.specs.Streams.{Output};
 
 use crate::Failed;
 
 /// Where bytes go.
 pub trait Sink: Drop {
-    /// The bytes that the sink holds, where it tells them.
-    ghost held: { Self → Option (List ℕ) };
-
-    /// How often a write failed. It stands still at 2^64 - 1.
-    ghost faults: { Self → ℕ };
+    /// The bytes that the sink holds, where it tells them, and the counts of its writes.
+    ghost means: { Self → Output };
 
     /// Takes the first bytes of the piece, and says how many: at least one, where there is one.
     fn write(&mut self, piece: &[u8]) -> Result<usize, Failed>
         ensures bound { IfOk result (λ n. n ≤ length piece.now) }
         ensures some { IfOk result (λ n. 0 < length piece.now → 0 < n) }
-        ensures ok { IfOk result (λ n. Takes (held self.old) (held self.new) (take n piece.now)) }
-        ensures ok_count { OnOk result (faults self.new ≡ faults self.old) }
+        ensures ok { IfOk result (λ n. Takes (means self.old).held (means self.new).held (take n piece.now)) }
+        ensures count { (means self.new).writes ≡ raised_count (means self.old).writes }
+        ensures ok_count { OnOk result ((means self.new).faults ≡ (means self.old).faults) }
 
         // Nothing was taken, and the outside failed.
-        ensures err { OnErr result (held self.new ≡ held self.old) }
-        ensures failed { OnErr result (Rose (faults self.old) (faults self.new)) }
-        ensures never_falls { faults self.old ≤ faults self.new };
+        ensures err { OnErr result ((means self.new).held ≡ (means self.old).held) }
+        ensures failed { OnErr result ((means self.new).faults ≡ raised_count (means self.old).faults) }
+        ensures never_falls { (means self.old).faults ≤ (means self.new).faults };
 }

@@ -1,6 +1,6 @@
-ghost use Rattle.std.specs.Prelude.{◌≡◌, ◌≤◌, ◌<◌, [], vec_len, IfOk, IfSome, OnOk, OnErr};
+ghost use Rattle.std.specs.Prelude.{◌≡◌, ◌≢◌, ◌≤◌, ◌<◌, ◌+◌, [], Some, None, length, vec_len, IfOk, IfSome, OnOk, OnErr};
 ghost use Rattle.spl_port.specs.Bytes.{Gives, Loses, Takes, TakesPart};
-ghost use Rattle.spl_port.specs.Counts.{Rose};
+ghost use Rattle.spl_port.specs.Counts.{raised_count};
 ghost use Rattle.spl_port.specs.declared.whole.ReadFault.TheVariants.{Failed as input_failed, NoMemory as out_of_memory};
 
 use crate::{Failed, Sink, Source};
@@ -57,13 +57,16 @@ impl From<AllocError> for ReadFault {
 #[tactic(auto, using(crate::proofs::BytesLemmas::takes_next))]
 /// Writes all of the text, in as many pieces as the sink takes it in.
 pub fn write_whole<O: Sink>(out: &mut O, text: &[u8]) -> Result<(), Failed>
-    ensures ok { OnOk result (Takes (O.held out.old) (O.held out.new) text.now) }
-    ensures ok_count { OnOk result (O.faults out.new ≡ O.faults out.old) }
+    ensures ok { OnOk result (Takes (O.means out.old).held (O.means out.new).held text.now) }
+    ensures ok_count { OnOk result ((O.means out.new).faults ≡ (O.means out.old).faults) }
 
-    // The sink stopped short of the end.
-    ensures err { OnErr result (TakesPart (O.held out.old) (O.held out.new) text.now) }
-    ensures failed { OnErr result (Rose (O.faults out.old) (O.faults out.new)) }
-    ensures never_falls { O.faults out.old ≤ O.faults out.new }
+    // The sink stopped short of the end: one write failed, the last one.
+    ensures err { OnErr result (TakesPart (O.means out.old).held (O.means out.new).held text.now) }
+    ensures failed { OnErr result ((O.means out.new).faults ≡ raised_count (O.means out.old).faults) }
+    ensures never_falls { (O.means out.old).faults ≤ (O.means out.new).faults }
+
+    // Each write has a byte to take.
+    ensures writes { (O.means out.new).writes ≤ (O.means out.old).writes + length text.now }
 {
     let mut at = 0;
     while at < text.len() {
@@ -73,7 +76,7 @@ pub fn write_whole<O: Sink>(out: &mut O, text: &[u8]) -> Result<(), Failed>
 }
 
 #[tactic(auto, using(crate::proofs::BytesLemmas::gives_next))]
-/// Reads to the end of the input, or until `limit` bytes were read.
+/// Reads to the end of the input, or until `limit` bytes were read. At the end it makes no further read.
 ///
 /// After an error the bytes that were read so far are lost.
 pub fn read_whole<I: Source>(
@@ -82,12 +85,19 @@ pub fn read_whole<I: Source>(
     limit: usize,
 ) -> Result<Vec<u8>, ReadFault>
     ensures bound { IfOk result (λ text. vec_len text ≤ limit) }
-    ensures ok { IfOk result (λ text. Gives (I.left input.old) (I.left input.new) text.items) }
-    ensures end { IfOk result (λ text. vec_len text < limit → IfSome (I.left input.new) (λ rest. rest ≡ [])) }
+    ensures ok { IfOk result (λ text. Gives (I.means input.old).left (I.means input.new).left text.items) }
+    ensures end { IfOk result (λ text. vec_len text < limit → IfSome (I.means input.new).left (λ rest. rest ≡ [])) }
+    ensures err { OnErr result (Loses (I.means input.old).left (I.means input.new).left limit) }
 
-    ensures err { OnErr result (Loses (I.left input.old) (I.left input.new) limit) }
-    ensures failed { result ≡ Err ReadFault.Failed → Rose (I.faults input.old) (I.faults input.new) }
-    ensures never_falls { I.faults input.old ≤ I.faults input.new }
+    // Where no read had met the end before, the last one does, or none.
+    ensures met { (I.means input.old).late ≡ None → IfOk result (λ text. vec_len text < limit → (I.means input.new).late ≡ Some 0) }
+    ensures full { (I.means input.old).late ≡ None → IfOk result (λ text. vec_len text ≡ limit → (I.means input.new).late ≡ None) }
+    ensures unmet { (I.means input.old).late ≡ None → OnErr result ((I.means input.new).late ≡ None) }
+
+    // It has failed exactly where a read failed.
+    ensures failed { result ≡ Err ReadFault.Failed → (I.means input.new).faults ≡ raised_count (I.means input.old).faults }
+    ensures count { result ≢ Err ReadFault.Failed → (I.means input.new).faults ≡ (I.means input.old).faults }
+    ensures never_falls { (I.means input.old).faults ≤ (I.means input.new).faults }
 {
     let mut text = Vec::new(alloc);
     let mut buffer = vec![in alloc; 0u8; PIECE.min(limit)]?;

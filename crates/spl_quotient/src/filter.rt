@@ -5,11 +5,11 @@ ghost use Rattle.spl_quotient.specs.Exponent.{IsExponent};
 ghost use Rattle.spl_quotient.specs.Table.{IsLaid, prints_in};
 
 use crate::find::has;
-use crate::hash::fingerprint;
+use crate::hash::top_bits;
 use crate::lay::lay;
 use crate::prints::{farthest_ahead, in_order, prints_of_hashes, prints_of_keys};
 use crate::table::Table;
-use spl_message::{Key, NoMemory};
+use spl_message::{Key, NoMemory, fnv};
 use std::alloc::Global;
 use std::marker::Model;
 
@@ -71,10 +71,18 @@ impl Filter {
     }
 
     /// Whether some key of the build has the fingerprint of the key.
+    #[tactic(auto, unfolding(crate::specs::Fnv::fingerprint_of))]
     pub fn admits(&self, key: &Key) -> bool
         ensures { IsTrue result ↔ Contains self.now.prints (fingerprint_of self.now.q key.now) }
     {
-        let print = fingerprint(key, self.q);
+        self.admits_hash(fnv(key.bytes()))
+    }
+
+    /// Whether some key of the build has the fingerprint that is cut from the hash.
+    pub fn admits_hash(&self, hash: u64) -> bool
+        ensures { IsTrue result ↔ Contains self.now.prints (print_of self.now.q hash) }
+    {
+        let print = top_bits(hash, self.q);
         let home = self.table.position_of((print / 4096) as usize);
         has(&self.table, home, (print % 4096) as u16)
     }

@@ -1,26 +1,8 @@
-//! The hash of a key, and the fingerprint that is cut from it.
+//! The fingerprint that is cut from the hash of a key.
 ghost use Rattle.std.specs.Prelude.{◌≡◌, ◌≤◌, ◌<◌, ◌^◌, ◌+◌};
-ghost use Rattle.spl_quotient.specs.Fnv.{fnv_of, print_of, fingerprint_of};
+ghost use Rattle.spl_quotient.specs.Fnv.{print_of, fingerprint_of};
 
-use spl_message::Key;
-
-/// The hash of no bytes.
-const OFFSET_BASIS: u64 = 0xcbf29ce484222325;
-
-/// What the hash is multiplied by at each byte.
-const PRIME: u64 = 0x100000001b3;
-
-/// FNV-1a with 64 bits.
-#[tactic(auto, unfolding(crate::specs::Fnv::fnv_of))]
-pub fn fnv(bytes: &[u8]) -> u64
-    ensures value { result ≡ fnv_of bytes.now }
-    ensures bits { result < 2 ^ 64 }
-{
-    bytes.iter().fold(
-        OFFSET_BASIS,
-        |hash, byte| (hash ^ u64::from(*byte)).wrapping_mul(PRIME),
-    )
-}
+use spl_message::{Key, fnv};
 
 /// The top `q + 12` bits of a hash.
 pub(crate) fn top_bits(hash: u64, q: u32) -> u64

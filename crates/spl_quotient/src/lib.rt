@@ -22,7 +22,8 @@ mod slot;
 mod table;
 
 pub use filter::Filter;
-pub use hash::{fingerprint, fnv};
+pub use hash::fingerprint;
+pub use spl_message::fnv;
 
 #[cfg(test)]
 mod tests;

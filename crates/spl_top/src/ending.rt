@@ -90,8 +90,8 @@ pub fn ending_of<I: Source>(
     words: &[String],
     input: &mut I,
 ) -> Result<Ending, NoMemory>
-    ensures ending { IfOk result (λ ending. Ends words.now (I.left input.old) (I.left input.new) (I.faults input.old) (I.faults input.new) ending.status ending.text.items) }
-    ensures reading_ends { Loses (I.left input.old) (I.left input.new) 16777217 }
+    ensures ending { IfOk result (λ ending. Ends words.now (I.means input.old).left (I.means input.new).left (I.means input.old).faults (I.means input.new).faults ending.status ending.text.items) }
+    ensures reading_ends { Loses (I.means input.old).left (I.means input.new).left 16777217 }
 {
     if !are_run(words) {
         return Ending::fixed(alloc, 1, b"words\n");

@@ -1,4 +1,4 @@
-ghost use Rattle.std.specs.Prelude.{Some};
+ghost use Rattle.spl_port.specs.MemSink.{output_of};
 
 use crate::{Row, splinter, write_report};
 use spl_message::{Answer, Call, Cause, Key, Message, Value};
@@ -11,9 +11,7 @@ use std::test::Fail;
 struct Sip(MemSink);
 
 impl Sink for Sip {
-    ghost held = { λ s. Some s.0.held };
-
-    ghost faults = { λ s. s.0.plan.faults };
+    ghost means = { λ s. output_of s.0 };
 
     fn write(&mut self, piece: &[u8]) -> Result<usize, Failed> {
         if piece.is_empty() {

@@ -14,7 +14,7 @@ use std::alloc::Global;
 
 /// Tells a text, and answers with its status, or with 4 where the sink failed.
 fn tell<O: Sink>(out: &mut O, text: &[u8], status: u8) -> u8
-    ensures { Tells (O.held out.old) (O.held out.new) (O.faults out.old) (O.faults out.new) status text.now result }
+    ensures { Tells (O.means out.old).held (O.means out.new).held (O.means out.old).faults (O.means out.new).faults status text.now result }
 {
     match write_whole(out, text) {
         Ok(()) => status,
@@ -25,9 +25,9 @@ fn tell<O: Sink>(out: &mut O, text: &[u8], status: u8) -> u8
 /// Ends the program, and tells how.
 fn end<I: Source, O: Sink>(alloc: Global, words: &[String], input: &mut I, out: &mut O) -> u8
     ensures told { (status : ℕ) × (text : List ℕ)
-        × Says words.now (I.left input.old) (I.left input.new) (I.faults input.old) (I.faults input.new) status text
-        × Tells (O.held out.old) (O.held out.new) (O.faults out.old) (O.faults out.new) status text result }
-    ensures reading_ends { Loses (I.left input.old) (I.left input.new) 16777217 }
+        × Says words.now (I.means input.old).left (I.means input.new).left (I.means input.old).faults (I.means input.new).faults status text
+        × Tells (O.means out.old).held (O.means out.new).held (O.means out.old).faults (O.means out.new).faults status text result }
+    ensures reading_ends { Loses (I.means input.old).left (I.means input.new).left 16777217 }
 {
     match ending_of(alloc, words, input) {
         Ok(ending) => tell(out, ending.text.as_slice(), ending.status),
@@ -54,26 +54,26 @@ pub fn splinter<I: Source, O: Sink>(
     out: &mut O,
 ) -> u8
     // The report is one legal history.
-    ensures headline { IsRun words.now → IfSome (I.left input.old) (λ bytes. (script : List ScriptLine) → script_text 1 bytes ≡ Ok script
-        → result ≢ 3 → result ≢ 4 → Reports (O.held out.old) (O.held out.new) result script) }
+    ensures headline { IsRun words.now → IfSome (I.means input.old).left (λ bytes. (script : List ScriptLine) → script_text 1 bytes ≡ Ok script
+        → result ≢ 3 → result ≢ 4 → Reports (O.means out.old).held (O.means out.new).held result script) }
     ensures done { result ≡ 0 → IsRun words.now
-        × IfSome (I.left input.old) (IsDone (O.held out.old) (O.held out.new)) × IfSome (I.left input.new) (λ bytes. bytes ≡ []) }
+        × IfSome (I.means input.old).left (IsDone (O.means out.old).held (O.means out.new).held) × IfSome (I.means input.new).left (λ bytes. bytes ≡ []) }
 
     // No more of the input is read.
-    ensures reading_ends { Loses (I.left input.old) (I.left input.new) 16777217 }
+    ensures reading_ends { Loses (I.means input.old).left (I.means input.new).left 16777217 }
 
     // Each refusal comes for its cause, and where that cause holds.
     ensures status { IsStatus result }
     ensures words_only { result ≡ 1 → ¬ (IsRun words.now) }
-    ensures words { ¬ (IsRun words.now) → Refuses (O.held out.old) (O.held out.new) 1 (codes "words\n") result }
-    ensures script_only { result ≡ 2 → IsRun words.now × IfSome (I.left input.old) (λ bytes. (faulty : Faulty) × (script_text 1 bytes ≡ Err faulty))
-        × IsRead (I.left input.old) (I.left input.new) }
-    ensures script { IsRun words.now → IfSome (I.left input.old) (λ bytes. (faulty : Faulty) → script_text 1 bytes ≡ Err faulty
-        → result ≢ 3 → Refuses (O.held out.old) (O.held out.new) 2 (fault_text faulty) result) }
-    ensures source_only { result ≡ 3 → IsRun words.now × Rose (I.faults input.old) (I.faults input.new) × Takes (O.held out.old) (O.held out.new) (codes "source\n") }
-    ensures sink_only { result ≡ 4 → Rose (O.faults out.old) (O.faults out.new) × (status : ℕ) × (text : List ℕ)
-        × Says words.now (I.left input.old) (I.left input.new) (I.faults input.old) (I.faults input.new) status text
-        × TakesPart (O.held out.old) (O.held out.new) text }
+    ensures words { ¬ (IsRun words.now) → Refuses (O.means out.old).held (O.means out.new).held 1 (codes "words\n") result }
+    ensures script_only { result ≡ 2 → IsRun words.now × IfSome (I.means input.old).left (λ bytes. (faulty : Faulty) × (script_text 1 bytes ≡ Err faulty))
+        × IsRead (I.means input.old).left (I.means input.new).left }
+    ensures script { IsRun words.now → IfSome (I.means input.old).left (λ bytes. (faulty : Faulty) → script_text 1 bytes ≡ Err faulty
+        → result ≢ 3 → Refuses (O.means out.old).held (O.means out.new).held 2 (fault_text faulty) result) }
+    ensures source_only { result ≡ 3 → IsRun words.now × Rose (I.means input.old).faults (I.means input.new).faults × Takes (O.means out.old).held (O.means out.new).held (codes "source\n") }
+    ensures sink_only { result ≡ 4 → Rose (O.means out.old).faults (O.means out.new).faults × (status : ℕ) × (text : List ℕ)
+        × Says words.now (I.means input.old).left (I.means input.new).left (I.means input.old).faults (I.means input.new).faults status text
+        × TakesPart (O.means out.old).held (O.means out.new).held text }
 {
     end(alloc, words, input, out)
 }

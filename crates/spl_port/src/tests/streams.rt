@@ -1,4 +1,5 @@
-ghost use Rattle.std.specs.Prelude.{Some};
+ghost use Rattle.spl_port.specs.MemSink.{output_of};
+ghost use Rattle.spl_port.specs.MemSource.{input_of};
 
 use crate::{
     Failed, MemSink, MemSource, ReadFault, Sink, Source, StdSink, StdSource, read_whole,
@@ -13,9 +14,7 @@ use std::test::Fail;
 struct Drip(MemSource);
 
 impl Source for Drip {
-    ghost left = { λ s. Some s.0.left };
-
-    ghost faults = { λ s. s.0.plan.faults };
+    ghost means = { λ s. input_of s.0 };
 
     fn read(&mut self, into: &mut [u8]) -> Result<usize, Failed> {
         if into.is_empty() {
@@ -30,9 +29,7 @@ impl Source for Drip {
 struct Sip(MemSink);
 
 impl Sink for Sip {
-    ghost held = { λ s. Some s.0.held };
-
-    ghost faults = { λ s. s.0.plan.faults };
+    ghost means = { λ s. output_of s.0 };
 
     fn write(&mut self, piece: &[u8]) -> Result<usize, Failed> {
         if piece.is_empty() {
