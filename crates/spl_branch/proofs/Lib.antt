@@ -6,7 +6,9 @@ pub mod GrowingParts
 pub mod GrowingTable
 pub mod GrowingTree
 pub mod Joined
+pub mod LeafPages
 pub mod PartPages
+pub mod Paths
 pub mod Telling
 pub mod ToldPages
 pub mod Visits

@@ -1,7 +1,9 @@
 pub mod Branch
 pub mod Faults
 pub mod Last
+pub mod Leaves
 pub mod Pages
+pub mod Path
 pub mod Reading
 pub mod Tree
 pub mod Visiting

@@ -52,6 +52,10 @@ last_is_free : (owners : List Owner) (rest : List ℕ) (extent room : ℕ) → I
 last_is_free owners rest extent room h =
     rw (get_or_push rest extent 0 (length rest) refl) at (h.free (length rest) 0 (omega (arith, length_push rest extent)))
 
+pub popped_is_free : (owners : List Owner) (old rest : List ℕ) (extent room : ℕ) → old ≡ rest ++ extent ∷ [] → IsSpare owners old room → slice_get owners extent ≡ Some Free
+popped_is_free owners old rest extent room popped h =
+    last_is_free owners rest extent room (subst (λ spare. IsSpare owners spare room) popped h)
+
 -- that extent passes to an owner
 IsSpare-pop : (owners : List Owner) (rest : List ℕ) (extent room : ℕ) (owner : Owner) → IsSpare owners (rest ++ extent ∷ []) room → is_free owner ≡ false → IsSpare (set owners extent owner) rest room
 IsSpare-pop owners rest extent room owner h taken =

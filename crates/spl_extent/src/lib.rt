@@ -1,6 +1,6 @@
 //! The extents of a store, each free, granted to one actor, or held by one branch.
 //!
-//! Which of the free extents a grant gives stays open, so that the pool may come to prefer
+//! Which of the free extents a grant gives is unspecified, so that the pool may come to prefer
 //! neighbours.
 #![tactic(auto)]
 
@@ -10,4 +10,4 @@ mod pool;
 mod tests;
 
 pub use owner::Owner;
-pub use pool::{ACTORS, EXTENTS, Pool};
+pub use pool::{EXTENTS, Pool};

@@ -1,4 +1,4 @@
-/// Whose an extent is.
+/// Who has an extent.
 #[derive(Clone, Copy, Debug, PartialEq, Eq, Hash)]
 pub enum Owner {
     /// Nobody's, so the next grant may give it.

@@ -1,39 +1,44 @@
-ghost use Rattle.std.specs.Prelude.{◌≡◌, ◌≢◌, ◌<◌, ◌≤◌, ◌↔◌, length, slice_get, slice_set, replicate, Some, IsSomeAnd, IsNone, IfSome, IfNone, IfOk};
-ghost use Rattle.spl_extent.specs.Pool.{free_count};
+ghost use Rattle.std.specs.Prelude.{◌≡◌, ◌<◌, ◌≤◌, ◌↔◌, length, slice_get, slice_set, replicate, Some, IsTrue, IsNone, IfSome, IfNone, IfOk};
+ghost use Rattle.spl_base.specs.declared.TheConstants.{ACTORS};
+ghost use Rattle.spl_extent.specs.Pool.{free_count, granted_to, without_grants};
+ghost use Rattle.spl_numbers.specs.Numbers.{size_of, ListsEach};
 
 use crate::owner::Owner;
-use spl_base::NoMemory;
+use spl_base::{ACTORS, NoMemory};
+use spl_numbers::Numbers;
 use std::alloc::Global;
 use std::marker::Model;
-
-/// The actors' numbers are below this one.
-pub const ACTORS: u32 = 32;
 
 /// A store has at most this many extents.
 pub const EXTENTS: u32 = 65_536;
 
-/// Whose each extent of a store is. In a clause it is the list of the owners, by the extents'
+const _: () = prove!(EXTENTS == 65_536);
+
+/// The owner of every extent. In a clause it is the list of the owners, by the extents'
 /// numbers, so each extent is exactly one of free, granted to one actor, or held by one branch.
 ///
-/// Only `new` takes memory, about 20 bytes an extent. Each other call takes the same few steps
-/// however many extents there are.
+/// Only `new` takes memory, about 24 bytes an extent. `give_back_all` and `are_granted` take as
+/// many steps as there are grants to give back or extents to test, and each other call the same
+/// few steps however many extents there are.
 #[derive(Debug, Drop)]
 pub struct Pool {
     owners: Vec<Owner>,
     /// The numbers of the free extents, the next to be granted last.
     spare: Vec<u32>,
+    /// The extents that each actor was granted.
+    granted: Vec<Numbers>,
 }
 
 impl Model for Pool {
     ghost use Rattle.std.specs.Prelude.{List, vec_capacity};
     ghost use Rattle.spl_extent.specs.declared.owner.Owner.{Owner};
-    ghost use Rattle.spl_extent.specs.Spare.{IsSpare};
+    ghost use Rattle.spl_extent.specs.Kept.{IsKept};
 
     ghost Value = { List Owner };
 
     ghost view = { λ p. p.owners.items };
 
-    ghost invariant = { λ p. IsSpare p.owners.items p.spare.items (vec_capacity p.spare) };
+    ghost invariant = { λ p. IsKept p.owners.items p.spare.items (vec_capacity p.spare) p.granted.items };
 }
 
 impl Pool {
@@ -47,7 +52,15 @@ impl Pool {
         for extent in (0..count).rev() {
             spare.push(extent)?;
         }
-        Ok(Pool { owners, spare })
+        let mut granted = Vec::with_capacity(alloc, ACTORS as usize)?;
+        for _actor in 0..ACTORS {
+            granted.push(Numbers::new(alloc, count)?)?;
+        }
+        Ok(Pool {
+            owners,
+            spare,
+            granted,
+        })
     }
 
     /// How many extents there are, free or not.
@@ -65,7 +78,24 @@ impl Pool {
         self.spare.len() as u32
     }
 
-    /// Whose the extent is.
+    /// How many extents the actor was granted and has neither given back nor published.
+    pub fn granted(&self, actor: u32) -> u32
+        requires { actor < ACTORS }
+        ensures { result ≡ size_of (granted_to self.now actor) }
+    {
+        self.granted[actor as usize].count()
+    }
+
+    /// Whether the list has each extent that the actor was granted once, and no other number.
+    pub fn are_granted(&mut self, actor: u32, extents: &[u32]) -> bool
+        requires { actor < ACTORS }
+        ensures answer { IsTrue result ↔ ListsEach extents.now (granted_to self.old actor) }
+        ensures unchanged { self.new ≡ self.old }
+    {
+        self.granted[actor as usize].is_listed_by(extents)
+    }
+
+    /// The extent's owner.
     pub fn owner(&self, extent: u32) -> Owner
         requires { extent < length self.now }
         ensures { slice_get self.now extent ≡ Some result }
@@ -73,7 +103,7 @@ impl Pool {
         self.owners[extent as usize]
     }
 
-    /// Grants a free extent to the actor. Which one it is stays open.
+    /// Grants a free extent to the actor. Which one is unspecified.
     pub fn grant(&mut self, actor: u32) -> Option<u32>
         requires { actor < ACTORS }
         ensures spent { IsNone result ↔ (free_count self.old ≡ 0) }
@@ -83,6 +113,8 @@ impl Pool {
     {
         let extent = self.spare.pop()?;
         self.owners[extent as usize] = Owner::Granted { actor };
+        let granted = &mut self.granted[actor as usize];
+        granted.insert(extent);
         Some(extent)
     }
 
@@ -92,28 +124,44 @@ impl Pool {
         requires granted { slice_get self.old extent ≡ Some (Owner.Granted actor) }
         ensures { self.new ≡ slice_set self.old extent Owner.Free }
     {
-        self.set_free(extent);
+        self.owners[extent as usize] = Owner::Free;
+        let granted = &mut self.granted[actor as usize];
+        granted.remove(extent);
+        self.spare.push(extent).unwrap();
     }
 
-    /// Makes an extent that the actor was granted the branch's.
+    /// Takes back every extent that the actor was granted and did not publish.
+    pub fn give_back_all(&mut self, actor: u32)
+        requires { actor < ACTORS }
+        ensures { self.new ≡ without_grants self.old actor }
+    {
+        while let Some(extent) = self.any_granted(actor) {
+            self.give_back(actor, extent);
+        }
+    }
+
+    fn any_granted(&self, actor: u32) -> Option<u32>
+        requires { actor < ACTORS }
+        ensures granted { IfSome result (λ extent. slice_get self.now extent ≡ Some (Owner.Granted actor)) }
+        ensures none { IsNone result ↔ (size_of (granted_to self.now actor) ≡ 0) }
+    {
+        self.granted[actor as usize].any()
+    }
+
+    /// Transfers an extent from the actor to the branch.
     pub fn hold(&mut self, actor: u32, extent: u32, branch: u64)
         requires known { actor < ACTORS }
         requires granted { slice_get self.old extent ≡ Some (Owner.Granted actor) }
         ensures { self.new ≡ slice_set self.old extent (Owner.Held branch) }
     {
         self.owners[extent as usize] = Owner::Held { branch };
+        let granted = &mut self.granted[actor as usize];
+        granted.remove(extent);
     }
 
     /// Takes back an extent of a branch that nothing names any more.
     pub fn release(&mut self, extent: u32, branch: u64)
         requires { slice_get self.old extent ≡ Some (Owner.Held branch) }
-        ensures { self.new ≡ slice_set self.old extent Owner.Free }
-    {
-        self.set_free(extent);
-    }
-
-    fn set_free(&mut self, extent: u32)
-        requires { IsSomeAnd (slice_get self.old extent) (λ owner. owner ≢ Owner.Free) }
         ensures { self.new ≡ slice_set self.old extent Owner.Free }
     {
         self.owners[extent as usize] = Owner::Free;

@@ -5,7 +5,7 @@ use Rattle.std.proofs.lemmas.List.{length-set, length-replicate, get_or-set_same
 use Rattle.std.proofs.lemmas.Bool.{cases_eq, cases_lt}
 use Rattle.spl_holds.specs.declared.grip.Grip.{Grip}
 use Rattle.spl_holds.specs.declared.grip.Grip.TheVariants.{Free}
-use Rattle.spl_holds.specs.declared.holds.TheConstants.{ACTORS}
+use Rattle.spl_base.specs.declared.TheConstants.{ACTORS}
 use Rattle.spl_holds.specs.Latch.{IsLatched, grip_in, nobody}
 use Rattle.spl_holds.specs.Holds.{grips_at, grip_of, with_grip, without_actor}
 

@@ -13,7 +13,7 @@ use Rattle.spl_holds.specs.declared.grip.Grip.{Grip}
 use Rattle.spl_holds.specs.declared.grip.Grip.TheVariants.{Free, Read, Claim, Write}
 use Rattle.spl_holds.specs.declared.latch.Owner.{Owner}
 use Rattle.spl_holds.specs.declared.latch.Owner.TheVariants.{Nobody, Claimant, Writer}
-use Rattle.spl_holds.specs.declared.holds.TheConstants.{ACTORS}
+use Rattle.spl_base.specs.declared.TheConstants.{ACTORS}
 use Rattle.spl_holds.specs.Grip.{is_read, is_write, may_write}
 use Rattle.spl_holds.specs.Latch.{IsLatched, grip_in, nobody}
 use Rattle.spl_holds.specs.Word.{reader_grip, grip_under, grips_in, owner_of, IsSound}
@@ -218,6 +218,36 @@ is_read-lowest readers owner some fits clear =
     position-grips_in is_read readers (Claimant owner) (trailing_zeros w32 readers) lowest.0
     ((is_read-claimed readers owner (trailing_zeros w32 readers) clear).0 lowest.1)
     (λ lower below. (is_read-claimed readers owner lower clear).1 (lowest.2 lower below))
+
+-- who reads has a bit, whoever owns the node
+is_read-bit : (readers : ℕ) (owner : Owner) (actor : ℕ) → IsSound readers owner → (bit_at readers actor ≡ 1 → is_read (grip_under readers owner actor) ≡ true) × (bit_at readers actor ≡ 0 → is_read (grip_under readers owner actor) ≡ false)
+is_read-bit readers Nobody actor sound = (λ one. ap is_read (reader_grip-one readers actor one), λ zero. ap is_read (reader_grip-zero readers actor zero))
+is_read-bit readers (Claimant owner) actor sound = is_read-claimed readers owner actor sound.1
+is_read-bit readers (Writer owner) actor sound = (
+  λ one. absurd (let zero = ap (λ r. bit_at r actor) sound.1 ∙ bit_at-zero actor in omega arith),
+  λ zero.
+      ⊎_elim
+      (λ (same : owner ≡ actor). ap (λ k. is_read (grip_under readers (Writer owner) k)) (sym same) ∙ ap is_read (grip_under-writer readers owner))
+      (λ apart. ap is_read (grip_under-other readers (Writer owner) actor (λ same. apart cc) ∙ reader_grip-zero readers actor zero))
+      (cases_eq owner actor),
+)
+
+pub first_reader_none : (readers : ℕ) (owner : Owner) → IsSound readers owner → readers ≡ 0 → position is_read (grips_in readers owner) ≡ None
+first_reader_none readers owner sound none =
+    position-grips_in_none is_read readers owner
+    (λ actor known. (is_read-bit readers owner actor sound).1 (ap (λ r. bit_at r actor) none ∙ bit_at-zero actor))
+
+pub first_reader_lowest : (readers : ℕ) (owner : Owner) → IsSound readers owner → 0 < readers → readers < 2 ^ 32 → position is_read (grips_in readers owner) ≡ Some (trailing_zeros w32 readers)
+first_reader_lowest readers owner sound some fits =
+    let lowest = bit_at-trailing_zeros w32 readers some fits in
+    position-grips_in is_read readers owner (trailing_zeros w32 readers) lowest.0
+    ((is_read-bit readers owner (trailing_zeros w32 readers) sound).0 lowest.1)
+    (λ lower below. (is_read-bit readers owner lower sound).1 (lowest.2 lower below))
+
+pub claimant_is : (readers : ℕ) (owner : Owner) → IsSound readers owner → owner_of owner ≡ position may_write (grips_in readers owner)
+claimant_is readers Nobody sound = sym (may_write-nobody readers Nobody refl)
+claimant_is readers (Claimant owner) sound = sym (may_write-owner readers (Claimant owner) owner sound refl)
+claimant_is readers (Writer owner) sound = sym (may_write-owner readers (Writer owner) owner sound refl)
 
 -- ---- the rules
 

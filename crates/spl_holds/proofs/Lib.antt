@@ -1,2 +1,3 @@
 pub mod HoldsLemmas
 pub mod LatchLemmas
+pub mod TallyLemmas

@@ -21,3 +21,16 @@ may_write Claim = true
 may_write Write = true
 may_write Free = false
 may_write Read = false
+
+abbrev pub is_claim : Grip → Bool
+is_claim Claim = true
+is_claim Free = false
+is_claim Read = false
+is_claim Write = false
+
+-- the grip is one
+abbrev pub is_held : Grip → Bool
+is_held Free = false
+is_held Read = true
+is_held Claim = true
+is_held Write = true

@@ -3,7 +3,7 @@ use Rattle.std.specs.Prelude.{◌≡◌, ◌≢◌, ℕ, List, length, slice_ind
 use Rattle.spl_holds.specs.declared.grip.Grip.{Grip}
 use Rattle.spl_holds.specs.declared.grip.Grip.TheVariants.{Free, Write}
 use Rattle.spl_holds.specs.declared.held.Held.{Held}
-use Rattle.spl_holds.specs.declared.holds.TheConstants.{ACTORS}
+use Rattle.spl_base.specs.declared.TheConstants.{ACTORS}
 use Rattle.spl_holds.specs.Grip.{is_read, is_write, may_write}
 
 -- what an actor has

@@ -6,7 +6,7 @@ use Rattle.spl_holds.specs.declared.grip.Grip.{Grip}
 use Rattle.spl_holds.specs.declared.grip.Grip.TheVariants.{Free, Read, Claim, Write}
 use Rattle.spl_holds.specs.declared.latch.Owner.{Owner}
 use Rattle.spl_holds.specs.declared.latch.Owner.TheVariants.{Nobody, Claimant, Writer}
-use Rattle.spl_holds.specs.declared.holds.TheConstants.{ACTORS}
+use Rattle.spl_base.specs.declared.TheConstants.{ACTORS}
 
 -- who may write
 abbrev pub owner_of : Owner → Option ℕ

@@ -1,40 +1,45 @@
-ghost use Rattle.std.specs.Prelude.{◌≡◌, ◌<◌, ◌≤◌, [], ◌∷◌, ◌++◌, length, IfOk, OnOk, OnErr, All};
+ghost use Rattle.std.specs.Prelude.{◌≡◌, ◌≢◌, ◌<◌, ◌≤◌, [], ◌∷◌, ◌++◌, ℕ, length, IsNone, IfOk, IfSome, OnOk, OnErr, All};
+ghost use Rattle.spl_base.specs.declared.TheConstants.{ACTORS};
 ghost use Rattle.spl_holds.specs.Latch.{IsLatched, nobody, writer_of, claimant_of, first_reader_of, refused_by};
 ghost use Rattle.spl_holds.specs.Holds.{grips_at, grip_of, with_grip, without_actor};
+ghost use Rattle.spl_holds.specs.Counts.{counts_of};
 
+use crate::counts::Counts;
 use crate::grip::Grip;
 use crate::held::Held;
 use crate::latch::Latch;
-use spl_base::NoMemory;
+use crate::tally::Tally;
+use spl_base::{ACTORS, NoMemory};
 use std::alloc::Global;
 use std::marker::Model;
-
-/// The actors' numbers are below this one.
-pub const ACTORS: u32 = 32;
 
 /// The trunk has at most this many nodes.
 pub const NODES: u32 = 4096;
 
+const _: () = prove!(NODES == 4096);
+
 /// The grips on the trunk's nodes. In a clause it is a list with the grips on each node, by the
 /// nodes' numbers, and these are the list of what each actor has there, by the actors' numbers.
 ///
-/// Only `new` takes memory, about 48 KiB. `leave_all` goes once over the nodes, and each other call
-/// takes the same few steps however many nodes and actors there are.
+/// Only `new` takes memory, about 72 KiB. `leave_all` takes as many steps as the actor has grips,
+/// and each other call the same few however many nodes and actors there are.
 #[derive(Debug, Drop)]
 pub struct Holds {
     latches: Vec<Latch>,
+    /// What each actor has, by the actors' numbers.
+    tallies: Vec<Tally>,
 }
 
 impl Model for Holds {
     ghost use Rattle.std.specs.Prelude.{List, vec_capacity};
     ghost use Rattle.spl_holds.specs.declared.grip.Grip.{Grip};
-    ghost use Rattle.spl_holds.specs.Room.{HasRoom};
+    ghost use Rattle.spl_holds.specs.Room.{IsKept};
 
     ghost Value = { List (List Grip) };
 
     ghost view = { λ h. h.latches.items };
 
-    ghost invariant = { λ h. HasRoom h.latches.items (vec_capacity h.latches) };
+    ghost invariant = { λ h. IsKept h.latches.items (vec_capacity h.latches) h.tallies.items };
 }
 
 impl Holds {
@@ -45,7 +50,11 @@ impl Holds {
     {
         let mut latches = Vec::with_capacity(alloc, NODES as usize)?;
         latches.push(Latch::new())?;
-        Ok(Holds { latches })
+        let mut tallies = Vec::with_capacity(alloc, ACTORS as usize)?;
+        for _actor in 0..ACTORS {
+            tallies.push(Tally::new(alloc)?)?;
+        }
+        Ok(Holds { latches, tallies })
     }
 
     /// How many nodes there are. Their numbers are those below it.
@@ -80,6 +89,38 @@ impl Holds {
         self.latches[node as usize].grip(actor)
     }
 
+    /// How many reads, claims and writes the actor has.
+    pub fn counts(&self, actor: u32) -> Counts
+        requires { actor < ACTORS }
+        ensures { result ≡ counts_of self.now actor }
+    {
+        self.tallies[actor as usize].counts
+    }
+
+    /// The actor for which a read of the node would be refused, if there is one.
+    pub fn writer(&self, node: u32) -> Option<u32>
+        requires { node < length self.now }
+        ensures { result ≡ writer_of (grips_at self.now node) }
+    {
+        self.latches[node as usize].writer()
+    }
+
+    /// The actor for which a claim of the node would be refused, if there is one.
+    pub fn claimant(&self, node: u32) -> Option<u32>
+        requires { node < length self.now }
+        ensures { result ≡ claimant_of (grips_at self.now node) }
+    {
+        self.latches[node as usize].claimant()
+    }
+
+    /// The actor for which the claimant's lock of the node would be refused, if there is one.
+    pub fn first_reader(&self, node: u32) -> Option<u32>
+        requires { node < length self.now }
+        ensures { result ≡ first_reader_of (grips_at self.now node) }
+    {
+        self.latches[node as usize].first_reader()
+    }
+
     /// Lets the actor read the node, unless another actor writes it.
     pub fn read(&mut self, actor: u32, node: u32) -> Result<(), Held>
         requires known { actor < ACTORS }
@@ -91,7 +132,10 @@ impl Holds {
         ensures latched { All IsLatched self.new }
     {
         let latch = &mut self.latches[node as usize];
-        latch.read(actor)
+        latch.read(actor)?;
+        let tally = &mut self.tallies[actor as usize];
+        tally.add(node, Grip::Read);
+        Ok(())
     }
 
     /// Lets the actor claim the node, unless another actor has claimed it or writes it.
@@ -105,7 +149,10 @@ impl Holds {
         ensures latched { All IsLatched self.new }
     {
         let latch = &mut self.latches[node as usize];
-        latch.claim(actor)
+        latch.claim(actor)?;
+        let tally = &mut self.tallies[actor as usize];
+        tally.add(node, Grip::Claim);
+        Ok(())
     }
 
     /// Makes the actor's claim a write, unless another actor reads the node. The lowest-numbered
@@ -120,7 +167,10 @@ impl Holds {
         ensures latched { All IsLatched self.new }
     {
         let latch = &mut self.latches[node as usize];
-        latch.lock(actor)
+        latch.lock(actor)?;
+        let tally = &mut self.tallies[actor as usize];
+        tally.lock();
+        Ok(())
     }
 
     /// Ends what the actor has of the node, if it has anything.
@@ -131,7 +181,13 @@ impl Holds {
         ensures latched { All IsLatched self.new }
     {
         let latch = &mut self.latches[node as usize];
+        let grip = latch.grip(actor);
+        if grip == Grip::Free {
+            return;
+        }
         latch.leave(actor);
+        let tally = &mut self.tallies[actor as usize];
+        tally.drop(node, grip);
     }
 
     /// Ends what the actor has of every node.
@@ -140,8 +196,19 @@ impl Holds {
         ensures left { self.new ≡ without_actor self.old actor }
         ensures latched { All IsLatched self.new }
     {
-        for latch in self.latches.iter_mut() {
-            latch.leave(actor);
+        while let Some(node) = self.any_node(actor) {
+            self.leave(actor, node);
         }
+    }
+
+    /// A node of which the actor has something.
+    fn any_node(&self, actor: u32) -> Option<u32>
+        requires { actor < ACTORS }
+        ensures exists { IfSome result (λ node. node < length self.now) }
+        ensures held { IfSome result (λ node. grip_of self.now actor node ≢ Grip.Free) }
+        ensures none { IsNone result → (node : ℕ) → grip_of self.now actor node ≡ Grip.Free }
+        ensures latched { All IsLatched self.now }
+    {
+        self.tallies[actor as usize].nodes.any()
     }
 }

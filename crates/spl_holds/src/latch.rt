@@ -1,9 +1,10 @@
 ghost use Rattle.std.specs.Prelude.{◌≡◌, ◌<◌, slice_get, slice_set, Some, OnOk, OnErr};
+ghost use Rattle.spl_base.specs.declared.TheConstants.{ACTORS};
 ghost use Rattle.spl_holds.specs.Latch.{IsLatched, nobody, writer_of, claimant_of, first_reader_of, refused_by};
 
 use crate::grip::Grip;
 use crate::held::Held;
-use crate::holds::ACTORS;
+use spl_base::ACTORS;
 use std::marker::Model;
 
 /// The grips on one node. In a clause it is their list, by the actors' numbers.
@@ -68,6 +69,33 @@ impl Latch {
             _ if (self.readers >> actor) & 1 == 1 => Grip::Read,
             _ => Grip::Free,
         }
+    }
+
+    /// The actor that writes.
+    pub fn writer(&self) -> Option<u32>
+        ensures { result ≡ writer_of self.now }
+    {
+        match self.owner {
+            Owner::Writer { actor } => Some(actor),
+            _ => None,
+        }
+    }
+
+    /// The actor that has a claim or a write.
+    pub fn claimant(&self) -> Option<u32>
+        ensures { result ≡ claimant_of self.now }
+    {
+        self.owner.actor()
+    }
+
+    /// The lowest-numbered actor that reads.
+    pub fn first_reader(&self) -> Option<u32>
+        ensures { result ≡ first_reader_of self.now }
+    {
+        if self.readers == 0 {
+            return None;
+        }
+        Some(self.readers.trailing_zeros())
     }
 
     pub fn read(&mut self, actor: u32) -> Result<(), Held>

@@ -5,13 +5,16 @@
 //! of them: nothing here waits.
 #![tactic(auto)]
 
+mod counts;
 mod grip;
 mod held;
 mod holds;
 mod latch;
+mod tally;
 #[cfg(test)]
 mod tests;
 
+pub use counts::Counts;
 pub use grip::Grip;
 pub use held::Held;
-pub use holds::{ACTORS, Holds, NODES};
+pub use holds::{Holds, NODES};

@@ -1,4 +1,5 @@
 use super::*;
+use spl_base::ACTORS;
 use std::process::Abort;
 use std::test::Fail;
 
@@ -88,5 +89,50 @@ fn a_write_stands_alone_until_its_actor_leaves(rt: HostRuntime) -> Result<(), Fa
             "{call:?} by {actor}"
         );
     }
+    Ok(())
+}
+
+/// For whom a read of node 1, a claim of node 2 and a lock of node 3 would be refused.
+fn forbidding(rt: &impl Abort, holds: &Holds) -> (Option<u32>, Option<u32>, Option<u32>) {
+    assert!(rt; holds.nodes() == 4);
+    (holds.writer(1), holds.claimant(2), holds.first_reader(3))
+}
+
+#[test]
+fn two_reads_and_a_claim_are_counted_until_their_actor_leaves(rt: HostRuntime) -> Result<(), Fail> {
+    let mut holds = Holds::new(rt.alloc())?;
+    for _ in 0..3 {
+        assert!(rt; holds.nodes() < NODES);
+        holds.add();
+    }
+    for (actor, call, node) in [
+        (7, Call::Read, 0),
+        (7, Call::Read, 3),
+        (7, Call::Claim, 2),
+        (8, Call::Read, 3),
+        (8, Call::Claim, 1),
+        (8, Call::Lock, 1),
+    ] {
+        assert_eq!(rt; answer(&rt, &mut holds, actor, call, node), Ok(()));
+    }
+    let others = Counts {
+        reads: 1,
+        claims: 0,
+        writes: 1,
+    };
+    assert_eq!(rt;
+        holds.counts(7),
+        Counts {
+            reads: 2,
+            claims: 1,
+            writes: 0
+        }
+    );
+    assert_eq!(rt; holds.counts(8), others);
+    assert_eq!(rt; forbidding(&rt, &holds), (Some(8), Some(7), Some(7)));
+    holds.leave_all(7);
+    assert_eq!(rt; holds.counts(7), Counts::default());
+    assert_eq!(rt; holds.counts(8), others);
+    assert_eq!(rt; forbidding(&rt, &holds), (Some(8), None, Some(8)));
     Ok(())
 }

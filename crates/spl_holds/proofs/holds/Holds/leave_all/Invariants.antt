@@ -1,12 +1,12 @@
-use Rattle.std.proofs.Common.{◌≡◌, ◌++◌, map, take, drop, slice_set}
+use Rattle.std.proofs.Common.{◌≡◌}
 use Rattle.std.specs.List.{All}
-use Rattle.spl_holds.specs.declared.grip.Grip.TheVariants.{Free}
-use Rattle.spl_holds.specs.Latch.{IsLatched}
+use Rattle.spl_holds.specs.Holds.{without_actor}
+use Rattle.spl_holds.proofs.TallyLemmas.{held_count}
 use Rattle.spl_holds.proofs.holds.Holds.leave_all.Given as goal
 
--- the actor has left the nodes so far
-abbrev pub invariant-loop-latch : goal.invariant-loop-latch
-invariant-loop-latch l = record {
-  left : l.latch-items ≡ map (λ grips. slice_set grips l.actor Free) (take l.latch-index l.initial.latch-items) ++ drop l.latch-index l.initial.latch-items;
-  latched : All IsLatched l.latch-items;
-}
+-- what was left so far would be left anyway
+abbrev pub invariant-loop-node : goal.invariant-loop-node
+invariant-loop-node l = without_actor l.self l.actor ≡ without_actor l.initial.self l.actor
+
+abbrev pub decreases-loop-node : goal.decreases-loop-node
+decreases-loop-node l = held_count l.self l.actor
