@@ -3,7 +3,7 @@ use Rattle.std.proofs.Common.{◌≡◌, ℕ, zero, suc, ◌+◌, ◌-◌, ◌<�
 use Rattle.std.specs.List.{slice_get}
 use Rattle.std.specs.Option.{IsSomeAnd}
 use Rattle.spl_message.specs.declared.message.Message.{Message}
-use Rattle.spl_message.specs.Table.{IsTable, message_at}
+use Rattle.spl_message.specs.Entries.{AreEntries, message_in}
 use Rattle.spl_port.specs.declared.damaged.Why.{Why}
 use Rattle.spl_port.specs.Counts.{Counts, Shown}
 use Rattle.spl_port.specs.Page.{index_fault, leaf_fault, page_fault}
@@ -13,7 +13,7 @@ use Rattle.spl_branch.specs.declared.fault.BranchFault.{BranchFault}
 use Rattle.spl_branch.specs.declared.fault.BranchFault.TheVariants.{Fault, Damaged, NoMemory}
 use Rattle.spl_branch.specs.declared.visit.Visit.{Visit}
 use Rattle.spl_branch.specs.declared.visit.Visit.TheVariants.{Found, Child}
-use Rattle.spl_branch.specs.Branch.{Branch, IsBranch, table_of}
+use Rattle.spl_branch.specs.Branch.{Branch, IsBranch, entries_in}
 use Rattle.spl_branch.specs.Pages.{AreTold, page_total, shown_pages}
 use Rattle.spl_branch.specs.Reading.{HasBranchCause, OnlyReads}
 use Rattle.spl_branch.specs.Tree.{IsTree, children_at, shown_children, shown_table, table_under}
@@ -32,16 +32,16 @@ unfolding page_fault
 sound_index shown index sound = ap (λ b. cond b (leaf_fault shown.at shown.bytes) (index_fault shown.at shown.bytes)) index ∙ sound
 
 leaf_says : (o : Option Shown) (key : List ℕ) (visit : Visit) → IsSomeAnd o (λ shown. (shown.at.leaf ≡ true) × (leaf_fault shown.at shown.bytes ≡ None))
-    → IsSomeAnd o (λ shown. visit ≡ visit_of shown key) → visit ≡ Found (message_at (shown_table o) key)
+    → IsSomeAnd o (λ shown. visit ≡ visit_of shown key) → visit ≡ Found (message_in (shown_table o) key)
 leaf_says None key visit is says = absurd is
 leaf_says (Some shown) key visit is says =
-    says ∙ ap (λ b. cond b (Found (message_at (leaf_table shown.bytes) key)) (by_child (child_for (children shown.at.page shown.bytes) key))) is.0
+    says ∙ ap (λ b. cond b (Found (message_in (leaf_table shown.bytes) key)) (by_child (child_for (children shown.at.page shown.bytes) key))) is.0
 
 index_says : (o : Option Shown) (key : List ℕ) (visit : Visit) → IsSomeAnd o (λ shown. (shown.at.leaf ≡ false) × (index_fault shown.at shown.bytes ≡ None))
     → IsSomeAnd o (λ shown. visit ≡ visit_of shown key) → visit ≡ by_child (child_for (shown_children o) key)
 index_says None key visit is says = absurd is
 index_says (Some shown) key visit is says =
-    says ∙ ap (λ b. cond b (Found (message_at (leaf_table shown.bytes) key)) (by_child (child_for (children shown.at.page shown.bytes) key))) is.0
+    says ∙ ap (λ b. cond b (Found (message_in (leaf_table shown.bytes) key)) (by_child (child_for (children shown.at.page shown.bytes) key))) is.0
 
 child_named : (found : Option ℕ) (child : ℕ) → Child child ≡ by_child found → found ≡ Some child
 child_named None child is = absurd cc
@@ -72,14 +72,14 @@ refuted (Some shown) why sound unsound = cc
 pub record IsUnder (branch : Branch) (key : List ℕ) (page start now : ℕ) : Type 0 where
   pub height : ℕ
   pub tree : IsTree height (shown_pages branch.parts) page
-  pub order : IsTable (table_under height (shown_pages branch.parts) page)
-  pub message : message_at (table_under height (shown_pages branch.parts) page) key ≡ message_at (table_of branch) key
+  pub order : AreEntries (table_under height (shown_pages branch.parts) page)
+  pub message : message_in (table_under height (shown_pages branch.parts) page) key ≡ message_in (entries_in branch) key
   pub reads : now + height + 1 ≤ start + branch.levels
 
 found_under : (branch : Branch) (key : List ℕ) (page start now height : ℕ) (found : Option Message) → IsTree height (shown_pages branch.parts) page
-    → IsTable (table_under height (shown_pages branch.parts) page)
+    → AreEntries (table_under height (shown_pages branch.parts) page)
     → IsSomeAnd (slice_get (shown_pages branch.parts) page) (λ shown. Found found ≡ visit_of shown key)
-    → found ≡ message_at (table_under height (shown_pages branch.parts) page) key
+    → found ≡ message_in (table_under height (shown_pages branch.parts) page) key
 unfolding IsTree table_under
 found_under branch key page start now zero found tree order says =
     let is = leaf_says (slice_get (shown_pages branch.parts) page) key (Found found) tree says in
@@ -90,8 +90,8 @@ found_under branch key page start now (suc height) found tree order says =
     is.1 ∙ sym (leads_nowhere height pages (children_at pages page) key tree.1 order is.0)
 
 child_under : (branch : Branch) (key : List ℕ) (page child start now after height : ℕ) → IsTree height (shown_pages branch.parts) page
-    → IsTable (table_under height (shown_pages branch.parts) page)
-    → message_at (table_under height (shown_pages branch.parts) page) key ≡ message_at (table_of branch) key
+    → AreEntries (table_under height (shown_pages branch.parts) page)
+    → message_in (table_under height (shown_pages branch.parts) page) key ≡ message_in (entries_in branch) key
     → now + height + 1 ≤ start + branch.levels → after ≤ now + 1
     → IsSomeAnd (slice_get (shown_pages branch.parts) page) (λ shown. Child child ≡ visit_of shown key)
     → IsUnder branch key child start after
@@ -124,12 +124,12 @@ down_starts branch key pages counts is whole = record {
   under = λ told.
       let holds = is.told told in
       let root : page_total branch.parts - 1 ≡ pages - 1 = omega arith in
-      let top = subst (λ page. table_under (branch.levels - 1) (shown_pages branch.parts) page ≡ table_of branch) root holds.whole in
+      let top = subst (λ page. table_under (branch.levels - 1) (shown_pages branch.parts) page ≡ entries_in branch) root holds.whole in
       record {
         height = branch.levels - 1;
         tree = subst (IsTree (branch.levels - 1) (shown_pages branch.parts)) root holds.tree;
-        order = subst IsTable (sym top) holds.order;
-        message = ap (λ table. message_at table key) top;
+        order = subst AreEntries (sym top) holds.order;
+        message = ap (λ table. message_in table key) top;
         reads = omega (arith, is.levels);
       };
 }
@@ -152,7 +152,7 @@ module _ (branch : Branch) (key : List ℕ) (page : ℕ) (start now after : Coun
   }
 
   pub down_ends : (found : Option Message) → (AreTold branch.parts → IsSomeAnd (slice_get (shown_pages branch.parts) page) (λ shown. Found found ≡ visit_of shown key))
-      → AreTold branch.parts → found ≡ message_at (table_of branch) key
+      → AreTold branch.parts → found ≡ message_in (entries_in branch) key
   down_ends found says told =
       let under = down.under told in
       found_under branch key page start.reads now.reads under.height found under.tree under.order (says told) ∙ under.message

@@ -13,7 +13,8 @@ use Rattle.std.proofs.lemmas.List.{length-map, map-append, map_push}
 use Rattle.std.proofs.lemmas.List.Elements.{filter-append}
 use Rattle.spl_message.specs.declared.message.Message.{Message}
 use Rattle.spl_message.specs.Key.{AreRising, is_below}
-use Rattle.spl_message.specs.Table.{Table, IsTable, cuts_of}
+use Rattle.spl_message.specs.Entries.{Entries, AreEntries}
+use Rattle.spl_message.specs.Table.{as_table, cuts_of}
 use Rattle.spl_port.specs.declared.at.At.{At}
 use Rattle.spl_port.specs.Counts.{Shown}
 use Rattle.spl_page.specs.Tables.{leaf_table}
@@ -49,26 +50,26 @@ rising_push (first ∷ next ∷ keys) key order above =
 
 -- ---- a table in two parts
 
-pub table_front : (front back : Table) → IsTable (front ++ back) → IsTable front
+pub table_front : (front back : Entries) → AreEntries (front ++ back) → AreEntries front
 table_front front back order = rising_front (keys_of front) (keys_of back) (subst AreRising (map-append (λ entry. entry.0) front back) order)
 
-pub table_back : (front back : Table) → IsTable (front ++ back) → IsTable back
+pub table_back : (front back : Entries) → AreEntries (front ++ back) → AreEntries back
 table_back front back order = rising_back (keys_of front) (keys_of back) (subst AreRising (map-append (λ entry. entry.0) front back) order)
 
 -- ---- a table with one more entry
 
-module _ (table : Table) (key : List ℕ) (message : Message) where
+module _ (table : Entries) (key : List ℕ) (message : Message) where
   pub keys_grow : keys_of (table ++ (key, message) ∷ []) ≡ keys_of table ++ key ∷ []
   keys_grow = map_push (λ entry. entry.0) table (key, message)
 
-  pub table_grow : IsTable table → IfSome (last_key table) (λ last. is_below last key ≡ true) → IsTable (table ++ (key, message) ∷ [])
+  pub table_grow : AreEntries table → IfSome (last_key table) (λ last. is_below last key ≡ true) → AreEntries (table ++ (key, message) ∷ [])
   table_grow order above = subst AreRising (sym keys_grow) (rising_push (keys_of table) key order above)
 
 last_push : (o : Option (List ℕ)) (keys : List (List ℕ)) (key : List ℕ) → last_or o (keys ++ key ∷ []) ≡ Some key
 last_push o [] key = refl
 last_push o (other ∷ keys) key = last_push (Some other) keys key
 
-pub last_grow : (table : Table) (key : List ℕ) (message : Message) → last_key (table ++ (key, message) ∷ []) ≡ Some key
+pub last_grow : (table : Entries) (key : List ℕ) (message : Message) → last_key (table ++ (key, message) ∷ []) ≡ Some key
 last_grow table key message = ap (last_or None) (keys_grow table key message) ∙ last_push None (keys_of table) key
 
 -- whether a rank is one where a table may be cut
@@ -83,7 +84,7 @@ cut_or_none : (cuts : List (List ℕ)) (rank : ℕ) (key : List ℕ) (cut : Bool
 cut_or_none cuts rank key true = refl
 cut_or_none cuts rank key false = append-nil cuts
 
-pub cuts_grow : (table : Table) (key : List ℕ) (message : Message) → cuts_of (table ++ (key, message) ∷ []) ≡ (if nat_lt 0 (length table) && (length table % 1024 == 0) then cuts_of table ++ key ∷ [] else cuts_of table)
+pub cuts_grow : (table : Entries) (key : List ℕ) (message : Message) → cuts_of (as_table (table ++ (key, message) ∷ [])) ≡ (if nat_lt 0 (length table) && (length table % 1024 == 0) then cuts_of (as_table table) ++ key ∷ [] else cuts_of (as_table table))
 cuts_grow table key message =
     let keys = keys_of table in
     let ranked = enumerate_from 0 keys in
@@ -93,8 +94,8 @@ cuts_grow table key message =
     ∙ ap cuts_among (enumerate_push 0 keys key)
     ∙ ap (map (λ (ranked : ℕ × List ℕ). ranked.1)) (filter-append (λ (ranked : ℕ × List ℕ). is_cut ranked.0) ranked (next ∷ []))
     ∙ map-append (λ (ranked : ℕ × List ℕ). ranked.1) (filter (λ (ranked : ℕ × List ℕ). is_cut ranked.0) ranked) (filter (λ (ranked : ℕ × List ℕ). is_cut ranked.0) (next ∷ []))
-    ∙ cut_or_none (cuts_of table) (0 + length keys) key (is_cut (0 + length keys))
-    ∙ ap (λ (rank : ℕ). if is_cut rank then cuts_of table ++ key ∷ [] else cuts_of table) rank
+    ∙ cut_or_none (cuts_of (as_table table)) (0 + length keys) key (is_cut (0 + length keys))
+    ∙ ap (λ (rank : ℕ). if is_cut rank then cuts_of (as_table table) ++ key ∷ [] else cuts_of (as_table table)) rank
 
 -- ---- the entries of the leaf pages
 

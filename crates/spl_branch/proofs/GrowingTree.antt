@@ -8,7 +8,7 @@ use Rattle.std.specs.Map.{keys_of}
 use Rattle.std.specs.Ordering.{nat_cmp}
 use Rattle.std.proofs.lemmas.List.{map-append}
 use Rattle.std.proofs.lemmas.List.Concat.{flat_map-append}
-use Rattle.spl_message.specs.Table.{Table, IsTable}
+use Rattle.spl_message.specs.Entries.{Entries, AreEntries}
 use Rattle.spl_message.specs.Key.{AreRising}
 use Rattle.spl_port.specs.declared.at.At.{At}
 use Rattle.spl_port.specs.Counts.{Shown}
@@ -88,19 +88,19 @@ index_table_stands height pages at bytes index sound below =
 
 -- ---- children in a row
 
-pub first_key_front : (table more : Table) (key : List ℕ) → first_key table ≡ Some key → first_key (table ++ more) ≡ Some key
+pub first_key_front : (table more : Entries) (key : List ℕ) → first_key table ≡ Some key → first_key (table ++ more) ≡ Some key
 first_key_front [] more key is = absurd (cc)
 first_key_front (entry ∷ table) more key is = is
 
 pub first_key_of : (height : ℕ) (pages : List Shown) (row : IndexRow) (rows : List IndexRow) → AreChildren height pages (row ∷ rows) → first_key (tables_under height pages (row ∷ rows)) ≡ Some row.key
 first_key_of height pages row rows each = first_key_front (table_under height pages row.child) (tables_under height pages rows) row.key each.0.1
 
-first_passes : (P : List ℕ → Type 0) (table : Table) (key : List ℕ) → first_key table ≡ Some key → AllByRecursion P (keys_of table) → P key
+first_passes : (P : List ℕ → Type 0) (table : Entries) (key : List ℕ) → first_key table ≡ Some key → AllByRecursion P (keys_of table) → P key
 first_passes P [] key is all = absurd (cc)
 first_passes P (entry ∷ table) key is all = let same : entry.0 ≡ key = cc in subst P same all.0
 
 -- the keys behind a table are above its first key
-rest_above : (table rest : Table) (key : List ℕ) → first_key table ≡ Some key → IsTable (table ++ rest) → AllByRecursion (λ other. slice_cmp nat_cmp key other ≡ Less) (keys_of rest)
+rest_above : (table rest : Entries) (key : List ℕ) → first_key table ≡ Some key → AreEntries (table ++ rest) → AllByRecursion (λ other. slice_cmp nat_cmp key other ≡ Less) (keys_of rest)
 unfolding IsStrictlySortedBy
 rest_above [] rest key is order = absurd (cc)
 rest_above (entry ∷ table) rest key is order =
@@ -147,7 +147,7 @@ module _ (height : ℕ) (pages : List Shown) where
       let parts = subst (AllByRecursion P) (map-append (λ entry. entry.0) table rest) all in
       (first_passes P table row.key each.0.1 (all_front P (keys_of table) (keys_of rest) parts), first_keys_above P rows each.1 (all_back P (keys_of table) (keys_of rest) parts))
 
-  pub keys_rise : (rows : List IndexRow) → AreChildren height pages rows → IsTable (tables_under height pages rows) → AreRising (child_keys rows)
+  pub keys_rise : (rows : List IndexRow) → AreChildren height pages rows → AreEntries (tables_under height pages rows) → AreRising (child_keys rows)
   unfolding IsStrictlySortedBy
   keys_rise [] each order = tt
   keys_rise (row ∷ rows) each order =

@@ -7,6 +7,7 @@ pub mod GrowingTable
 pub mod GrowingTree
 pub mod Joined
 pub mod PartPages
+pub mod Paths
 pub mod Telling
 pub mod ToldPages
 pub mod Visits

@@ -1,26 +1,28 @@
 -- What the page that was fetched is to the branch.
-use Rattle.std.proofs.Common.{◌≡◌, ℕ, ◌/◌, ◌%◌, ◌<◌, true, false, cond, List, Option, Some, length, get_or, map, sym, ap, ◌∙◌, subst, arith}
+use Rattle.std.proofs.Common.{◌≡◌, ℕ, ◌/◌, ◌%◌, ◌<◌, true, false, cond, List, [], Option, Some, None, length, get_or, map, refl, sym, ap, ◌∙◌, subst, arith}
 use Rattle.std.specs.List.{slice_get}
-use Rattle.std.specs.Option.{IfSome, IsSomeAnd}
+use Rattle.std.specs.Option.{IsSomeAnd}
 use Rattle.std.proofs.lemmas.List.{length-map}
 use Rattle.std.proofs.lemmas.Option.{slice_get_within}
 use Rattle.spl_message.specs.declared.message.Message.{Message}
-use Rattle.spl_message.specs.Table.{message_at}
+use Rattle.spl_message.specs.Entries.{message_in}
 use Rattle.spl_port.specs.declared.at.At.{At}
 use Rattle.spl_port.specs.declared.damaged.Damaged.{Damaged as Damage}
 use Rattle.spl_port.specs.Counts.{Counts, Shown}
 use Rattle.spl_port.specs.Page.{page_fault}
 use Rattle.spl_port.specs.Seal.{Allows, Sealed, page_count, place}
-use Rattle.spl_page.specs.declared.fault.PageFault.{PageFault}
-use Rattle.spl_page.specs.declared.fault.PageFault.TheVariants.{Damaged as DamagedPage, NoMemory as NoMemoryForPage}
-use Rattle.spl_page.specs.PageFault.{IsFaultOf}
+use Rattle.spl_pager.specs.declared.fault.FetchFault.{FetchFault}
+use Rattle.spl_pager.specs.declared.fault.FetchFault.TheVariants.{Failed, Damaged as DamagedPage, NoMemory as NoMemoryForPage}
+use Rattle.spl_pager.specs.Fetching.{HasFetchCause}
 use Rattle.spl_page.specs.Tables.{child_for, children, leaf_table}
+use Rattle.spl_branch.specs.declared.visit.Visit.{Visit}
 use Rattle.spl_branch.specs.declared.visit.Visit.TheVariants.{Found}
 use Rattle.spl_branch.specs.Branch.{Branch, IsBranch}
-use Rattle.spl_branch.specs.Faults.{of_page}
+use Rattle.spl_branch.specs.Faults.{of_fetch}
 use Rattle.spl_branch.specs.Pages.{AreTold, page_total, shown_pages}
+use Rattle.spl_branch.specs.Path.{Gives, IsVisit}
 use Rattle.spl_branch.specs.Reading.{IsPlaceOf}
-use Rattle.spl_branch.specs.Visiting.{HasVisitCause, IsPageDamage, by_child, visit_of}
+use Rattle.spl_branch.specs.Visiting.{GoesBelow, HasVisitCause, by_child, visit_of}
 use Rattle.spl_branch.proofs.PartPages.{part_at, seal_part}
 use Rattle.spl_branch.proofs.ToldPages.{read_is}
 
@@ -53,16 +55,16 @@ page_is means branch seals page seal is parts within read =
     }
 
 -- a leaf page has the message
-pub leaf_visit : (at : At) (bytes key : List ℕ) (found : Option Message) → at.leaf ≡ true → found ≡ message_at (leaf_table bytes) key
+pub leaf_visit : (at : At) (bytes key : List ℕ) (found : Option Message) → at.leaf ≡ true → found ≡ message_in (leaf_table bytes) key
     → Found found ≡ visit_of (record { at = at; bytes = bytes }) key
 leaf_visit at bytes key found leaf is =
-    ap Found is ∙ ap (λ b. cond b (Found (message_at (leaf_table bytes) key)) (by_child (child_for (children at.page bytes) key))) (sym leaf)
+    ap Found is ∙ ap (λ b. cond b (Found (message_in (leaf_table bytes) key)) (by_child (child_for (children at.page bytes) key))) (sym leaf)
 
 -- an index page names the child, or none
 pub index_visit : (at : At) (bytes key : List ℕ) (child : Option ℕ) → at.leaf ≡ false → child ≡ child_for (children at.page bytes) key
     → by_child child ≡ visit_of (record { at = at; bytes = bytes }) key
 index_visit at bytes key child index is =
-    ap by_child is ∙ ap (λ b. cond b (Found (message_at (leaf_table bytes) key)) (by_child (child_for (children at.page bytes) key))) (sym index)
+    ap by_child is ∙ ap (λ b. cond b (Found (message_in (leaf_table bytes) key)) (by_child (child_for (children at.page bytes) key))) (sym index)
 
 module _ (branch : Branch) (page : ℕ) (part : Sealed) (at : At) (bytes : List ℕ) (is : IsPage branch page part) (place_is : at ≡ place part (page % 32)) where
   pub own_number : at.page ≡ page
@@ -92,18 +94,44 @@ module _ (branch : Branch) (page : ℕ) (part : Sealed) (at : At) (bytes : List 
       → IsSomeAnd (slice_get (shown_pages branch.parts) page) P
   told_page P allows holds told = rw (told_is allows told) holds
 
-  damage_is : (before after : Counts) (damage : Damage) → Allows part (at.page % 32) bytes → (after.last ≡ Some (record { at = at; bytes = bytes })) × (before.reads < after.reads)
-      → damage.at ≡ at → page_fault at bytes ≡ Some damage.why → IsPageDamage branch page before after damage
-  damage_is before after damage allows read at-is why-is = record {
-    place = subst (IsPlaceOf branch.parts) (sym at-is) its_place;
-    latest = rw read.0 (sym at-is, why-is);
-    read = read.1;
-    told = told_page (λ shown. page_fault shown.at shown.bytes ≡ Some damage.why) allows why-is;
+some_and : {X : Type 0} (P : X → Type 0) (o : Option X) → IsSomeAnd o P → (x : X) × (o ≡ Some x) × P x
+some_and P None is = absurd is
+some_and P (Some x) is = (x, refl, is)
+
+module _ (branch : Branch) (page : ℕ) (part : Sealed) (at : At) (is : IsPage branch page part) (place_is : at ≡ place part (page % 32)) (before after : Counts) where
+  -- why the page was not given
+  pub refused : (fault : FetchFault) → HasFetchCause part at before after fault → HasVisitCause branch page before after (of_fetch fault)
+  refused Failed cause = cause
+  refused NoMemoryForPage cause = tt
+  refused (DamagedPage damage) cause =
+      let last = some_and (λ shown. (shown.at ≡ at) × (page_fault at shown.bytes ≡ Some damage.why) × Allows part (at.page % 32) shown.bytes) after.last cause.latest in
+      record {
+        place = subst (IsPlaceOf branch.parts) (sym cause.place) (its_place branch page part at [] is place_is);
+        latest = rw last.1 (last.2.0 ∙ sym cause.place, subst (λ at. page_fault at last.0.bytes ≡ Some damage.why) (sym last.2.0) last.2.1);
+        read = cause.read;
+        told = told_page branch page part at last.0.bytes is place_is (λ shown. page_fault shown.at shown.bytes ≡ Some damage.why) last.2.2 last.2.1;
+      }
+
+  -- what the page that was given says
+  pub given : (gives : Gives) (key : List ℕ) (visit : Visit) (shown : Shown) → shown.at ≡ at → gives before after shown → page_fault shown.at shown.bytes ≡ None
+      → visit ≡ visit_of shown key → IsVisit gives branch page key before after visit
+  given gives key visit shown here shows sound says = record {
+    shown = shown;
+    given = record {
+      shown = shows;
+      place = subst (IsPlaceOf branch.parts) (sym here) (its_place branch page part at [] is place_is);
+      number = ap (λ at. at.page) here ∙ own_number branch page part at [] is place_is;
+      sound = sound;
+    };
+    says = says;
   }
 
-  -- why the page is refused
-  pub refused : (before after : Counts) → Allows part (at.page % 32) bytes
-      → IfSome (page_fault at bytes) (λ _. (after.last ≡ Some (record { at = at; bytes = bytes })) × (before.reads < after.reads))
-      → (fault : PageFault) → IsFaultOf at bytes fault → HasVisitCause branch page before after (of_page fault)
-  refused before after allows read NoMemoryForPage why = tt
-  refused before after allows read (DamagedPage damage) why = damage_is before after damage allows (rw why.1 at read) why.0 why.1
+  pub told_visit : (key : List ℕ) (visit : Visit) (shown : Shown) → shown.at ≡ at → Allows part (at.page % 32) shown.bytes → visit ≡ visit_of shown key → AreTold branch.parts
+      → IsSomeAnd (slice_get (shown_pages branch.parts) page) (λ shown. visit ≡ visit_of shown key)
+  told_visit key visit shown here allows says =
+      told_page branch page part at shown.bytes is place_is (λ shown. visit ≡ visit_of shown key) allows
+      (subst (λ at. visit ≡ visit_of (record { at = at; bytes = shown.bytes }) key) here says)
+
+  pub below_page : (visit : Visit) (shown : Shown) → shown.at ≡ at → GoesBelow shown.at.page visit → GoesBelow page visit
+  below_page visit shown here below =
+      subst (λ (page : ℕ). GoesBelow page visit) (ap (λ at. at.page) here ∙ own_number branch page part at [] is place_is) below

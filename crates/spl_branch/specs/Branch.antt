@@ -1,7 +1,8 @@
 -- A branch, as contracts see it, and what holds of it.
 use Rattle.std.specs.Prelude.{◌≡◌, ℕ, ◌-◌, ◌<◌, ◌≤◌, ◌↔◌, ◌++◌, true, false, if◌then◌else◌, List, [], length, map, flat_map, replicate, Contains}
 use Rattle.std.specs.Map.{keys_of}
-use Rattle.spl_message.specs.Table.{Table, IsTable, cuts_of}
+use Rattle.spl_message.specs.Entries.{Entries}
+use Rattle.spl_message.specs.Table.{Table, IsTable, as_table, cuts_of, key_count}
 use Rattle.spl_page.specs.Tables.{leaf_table}
 use Rattle.spl_port.specs.Counts.{Shown}
 use Rattle.spl_port.specs.Seal.{Sealed}
@@ -38,22 +39,26 @@ shown means parts = record {
 }
 
 -- the entries of the leaf pages, page by page
-abbrev pub leaf_entries : List Shown → Table
+abbrev pub leaf_entries : List Shown → Entries
 leaf_entries pages = flat_map (λ shown. if shown.at.leaf then leaf_table shown.bytes else []) pages
 
--- the table of a branch whose pages are told
+-- the entries of a branch whose pages are told
+abbrev pub entries_in : Branch → Entries
+entries_in branch = leaf_entries (shown_pages branch.parts)
+
+-- its table
 abbrev pub table_of : Branch → Table
-table_of branch = leaf_entries (shown_pages branch.parts)
+table_of branch = as_table (entries_in branch)
 
 -- the pages hold the table as a tree, whose root is the last page, and all else that is kept is that table's
 pub record HoldsTable (branch : Branch) : Type 0 where
   pub order : IsTable (table_of branch)
-  pub entries : branch.entries ≡ length (table_of branch)
+  pub entries : branch.entries ≡ key_count (table_of branch)
   pub cuts : branch.cuts ≡ cuts_of (table_of branch)
   pub tree : IsTree (branch.levels - 1) (shown_pages branch.parts) (page_total branch.parts - 1)
-  pub whole : table_under (branch.levels - 1) (shown_pages branch.parts) (page_total branch.parts - 1) ≡ table_of branch
+  pub whole : table_under (branch.levels - 1) (shown_pages branch.parts) (page_total branch.parts - 1) ≡ entries_in branch
   pub exponent : IsExponent branch.entries branch.filter.q
-  pub prints : (print : ℕ) → Contains branch.filter.prints print ↔ Contains (map (fingerprint_of branch.filter.q) (keys_of (table_of branch))) print
+  pub prints : (print : ℕ) → Contains branch.filter.prints print ↔ Contains (map (fingerprint_of branch.filter.q) (keys_of (entries_in branch))) print
 
 -- what holds of every branch; of what its pages hold only where they are told
 pub record IsBranch (branch : Branch) : Type 0 where

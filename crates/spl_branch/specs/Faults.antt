@@ -1,15 +1,10 @@
--- What the faults of the layers below are to a branch.
-use Rattle.spl_page.specs.declared.fault.PageFault.{PageFault}
-use Rattle.spl_page.specs.declared.fault.PageFault.TheVariants.{Damaged as DamagedPage, NoMemory as NoMemoryForPage}
-use Rattle.spl_port.specs.declared.port.PortFault.{PortFault}
-use Rattle.spl_port.specs.declared.port.PortFault.TheVariants.{Failed, NoMemory as NoMemoryOfPort}
+-- What the faults of a pager are to a branch.
+use Rattle.spl_pager.specs.declared.fault.FetchFault.{FetchFault}
+use Rattle.spl_pager.specs.declared.fault.FetchFault.TheVariants.{Failed, Damaged as DamagedPage, NoMemory as NoMemoryForPage}
 use Rattle.spl_branch.specs.declared.fault.BranchFault.{BranchFault}
 use Rattle.spl_branch.specs.declared.fault.BranchFault.TheVariants.{Fault, Damaged, NoMemory}
 
-abbrev pub of_port : PortFault → BranchFault
-of_port Failed = Fault
-of_port NoMemoryOfPort = NoMemory
-
-abbrev pub of_page : PageFault → BranchFault
-of_page (DamagedPage damaged) = Damaged damaged
-of_page NoMemoryForPage = NoMemory
+abbrev pub of_fetch : FetchFault → BranchFault
+of_fetch Failed = Fault
+of_fetch (DamagedPage damaged) = Damaged damaged
+of_fetch NoMemoryForPage = NoMemory

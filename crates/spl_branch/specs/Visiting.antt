@@ -2,7 +2,7 @@
 use Rattle.std.specs.Prelude.{◌≡◌, ℕ, ◌<◌, if◌then◌else◌, List, Option, Some, None}
 use Rattle.std.specs.List.{slice_get}
 use Rattle.std.specs.Option.{IsSomeAnd}
-use Rattle.spl_message.specs.Table.{message_at}
+use Rattle.spl_message.specs.Entries.{message_in}
 use Rattle.spl_port.specs.declared.damaged.Damaged.{Damaged as Damage}
 use Rattle.spl_port.specs.Counts.{Counts, Rose, Shown}
 use Rattle.spl_port.specs.Page.{page_fault}
@@ -22,7 +22,7 @@ by_child (Some child) = Child child
 -- a leaf page has the key's message, and an index page names the child under which the key belongs, if there is one
 abbrev pub visit_of : Shown → List ℕ → Visit
 visit_of shown key =
-    if shown.at.leaf then Found (message_at (leaf_table shown.bytes) key) else by_child (child_for (children shown.at.page shown.bytes) key)
+    if shown.at.leaf then Found (message_in (leaf_table shown.bytes) key) else by_child (child_for (children shown.at.page shown.bytes) key)
 
 -- whatever goes on goes on below
 abbrev pub GoesBelow : ℕ → Visit → Type 0

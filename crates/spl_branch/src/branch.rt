@@ -2,7 +2,7 @@ ghost use Rattle.std.specs.Prelude.{◌≡◌};
 ghost use Rattle.spl_branch.specs.Branch.{IsBranch, shown, table_of};
 ghost use Rattle.spl_branch.specs.Reading.{admits, reach_of};
 
-use spl_message::{Content, Key};
+use spl_message::{Content, HashedKey, Key};
 use spl_port::{EXTENT_PAGES, Seal};
 use spl_quotient::Filter;
 use std::marker::Model;
@@ -68,10 +68,10 @@ impl<S: Seal> Branch<S> {
 }
 
 /// Whether the filter admits the key. Takes no memory.
-pub(crate) fn is_admitted(filter: &Filter, key: &Key) -> bool
+pub(crate) fn is_admitted(filter: &Filter, key: &HashedKey) -> bool
     ensures { result ≡ admits filter.now key.now }
 {
-    filter.admits(key)
+    filter.admits_hash(key.hash())
 }
 
 impl<S: Seal> Content for Branch<S> {
@@ -105,7 +105,7 @@ impl<S: Seal> Content for Branch<S> {
         self.parts.cuts.as_slice()
     }
 
-    fn reach(&self, key: &Key) -> u32 {
+    fn reach(&self, key: &HashedKey) -> u32 {
         let levels = self.parts.levels;
         if is_admitted(&self.parts.filter, key) {
             levels

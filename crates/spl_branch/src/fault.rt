@@ -1,9 +1,10 @@
 ghost use Rattle.std.specs.Prelude.{◌≡◌};
-ghost use Rattle.spl_branch.specs.Faults.{of_page, of_port};
+ghost use Rattle.spl_branch.specs.Faults.{of_fetch};
+ghost use Rattle.spl_branch.specs.declared.fault.BranchFault.TheVariants.{NoMemory as out_of_memory};
 
 use spl_message::NoMemory;
-use spl_page::PageFault;
-use spl_port::{Damaged, PortFault};
+use spl_pager::FetchFault;
+use spl_port::Damaged;
 use std::error::Error;
 use std::fmt;
 
@@ -21,7 +22,7 @@ pub enum BranchFault {
 impl fmt::Display for BranchFault {
     fn fmt<W: fmt::Write>(&self, f: &mut fmt::Formatter<W>) -> fmt::Result {
         match self {
-            BranchFault::Fault => write!(f, "{}", PortFault::Failed),
+            BranchFault::Fault => write!(f, "{}", FetchFault::Failed),
             BranchFault::Damaged(damaged) => write!(f, "{damaged}"),
             BranchFault::NoMemory => write!(f, "{NoMemory}"),
         }
@@ -30,24 +31,22 @@ impl fmt::Display for BranchFault {
 
 impl Error for BranchFault {}
 
-impl From<PortFault> for BranchFault {
-    ghost from_gives = { λ fault e. e ≡ of_port fault };
+impl From<FetchFault> for BranchFault {
+    ghost from_gives = { λ fault e. e ≡ of_fetch fault };
 
-    fn from(fault: PortFault) -> BranchFault {
+    fn from(fault: FetchFault) -> BranchFault {
         match fault {
-            PortFault::Failed => BranchFault::Fault,
-            PortFault::NoMemory => BranchFault::NoMemory,
+            FetchFault::Failed => BranchFault::Fault,
+            FetchFault::Damaged(damaged) => BranchFault::Damaged(damaged),
+            FetchFault::NoMemory => BranchFault::NoMemory,
         }
     }
 }
 
-impl From<PageFault> for BranchFault {
-    ghost from_gives = { λ fault e. e ≡ of_page fault };
+impl From<NoMemory> for BranchFault {
+    ghost from_gives = { λ _ e. e ≡ out_of_memory };
 
-    fn from(fault: PageFault) -> BranchFault {
-        match fault {
-            PageFault::Damaged(damaged) => BranchFault::Damaged(damaged),
-            PageFault::NoMemory => BranchFault::NoMemory,
-        }
+    fn from(_: NoMemory) -> BranchFault {
+        BranchFault::NoMemory
     }
 }

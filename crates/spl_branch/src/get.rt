@@ -1,18 +1,20 @@
-ghost use Rattle.std.specs.Prelude.{◌≡◌, ◌+◌, ◌<◌, ◌≤◌, true, false, None, IfOk, IfErr};
+ghost use Rattle.std.specs.Prelude.{◌≡◌, ◌+◌, ◌<◌, ◌≤◌, true, false, None, IfOk, IfErr, OnOk};
 ghost use Rattle.std.specs.List.{slice_get};
 ghost use Rattle.std.specs.Option.{IsSomeAnd};
 ghost use Rattle.spl_message.specs.Table.{message_at};
 ghost use Rattle.spl_port.specs.Port.{ReadsOne};
 ghost use Rattle.spl_branch.specs.Branch.{table_of};
 ghost use Rattle.spl_branch.specs.Pages.{AreTold, page_total, shown_pages};
+ghost use Rattle.spl_branch.specs.Path.{IsFoundBy, IsVisit};
 ghost use Rattle.spl_branch.specs.Reading.{HasBranchCause, OnlyReads, ReadsNone, admits, reach_of};
 ghost use Rattle.spl_branch.specs.Visiting.{GoesBelow, HasVisitCause, visit_of};
 
 use crate::BranchFault;
 use crate::branch::{Branch, is_admitted};
 use crate::visit::Visit;
-use spl_message::{Key, Message};
-use spl_port::{EXTENT_PAGES, Pager, Port, Seal};
+use spl_message::{HashedKey, Message};
+use spl_pager::Pager;
+use spl_port::{EXTENT_PAGES, Port, Seal};
 
 impl<S: Seal> Branch<S> {
     /// What the page says of the key.
@@ -21,20 +23,22 @@ impl<S: Seal> Branch<S> {
         port: &mut P,
         pager: &G,
         page: u32,
-        key: &Key,
+        key: &HashedKey,
     ) -> Result<Visit, BranchFault>
         requires { page < page_total self.now.parts }
         ensures told { AreTold self.now.parts → IfOk result (λ visit.
             IsSomeAnd (slice_get (shown_pages self.now.parts) page) (λ shown. visit ≡ visit_of shown key.now)) }
+        ensures given { IfOk result (IsVisit (G.shows pager.now) self.now page key.now (P.counts port.old) (P.counts port.new)) }
         ensures below { IfOk result (GoesBelow page) }
         ensures counts { ReadsOne (P.counts port.old) (P.counts port.new) }
+        ensures faults { OnOk result ((P.counts port.new).faults ≡ (P.counts port.old).faults) }
         ensures cause { IfErr result (HasVisitCause self.now page (P.counts port.old) (P.counts port.new)) }
     {
         let seal = &self.parts.seals[(page / EXTENT_PAGES) as usize];
         let at = seal.at(page % EXTENT_PAGES);
-        let bytes = pager.fetch(port, seal, at)?;
         let alloc = *self.parts.extents.allocator();
-        Ok(Visit::read(alloc, bytes.bytes(), at, key)?)
+        let page = pager.fetch(alloc, port, seal, at)?;
+        Ok(Visit::read(alloc, &page, key)?)
     }
 
     /// The message that the pages have for the key.
@@ -42,11 +46,14 @@ impl<S: Seal> Branch<S> {
         &self,
         port: &mut P,
         pager: &G,
-        key: &Key,
+        key: &HashedKey,
     ) -> Result<Option<Message>, BranchFault>
         ensures table { AreTold self.now.parts → IfOk result (λ found. found ≡ message_at (table_of self.now) key.now) }
         ensures reach { AreTold self.now.parts → (P.counts port.new).reads ≤ (P.counts port.old).reads + self.now.levels }
+        ensures path { IfOk result (IsFoundBy (G.shows pager.now) self.now key.now (P.counts port.old) (P.counts port.new)) }
+        ensures most { (P.counts port.new).reads ≤ (P.counts port.old).reads + page_total self.now.parts }
         ensures counts { OnlyReads (P.counts port.old) (P.counts port.new) }
+        ensures faults { OnOk result ((P.counts port.new).faults ≡ (P.counts port.old).faults) }
         ensures cause { IfErr result (HasBranchCause self.now (P.counts port.old) (P.counts port.new)) }
     {
         let mut page = self.pages - 1;
@@ -65,12 +72,18 @@ impl<S: Seal> Branch<S> {
         &self,
         port: &mut P,
         pager: &G,
-        key: &Key,
+        key: &HashedKey,
     ) -> Result<Option<Message>, BranchFault>
         ensures table { S.TELLS ≡ true → IfOk result (λ found. found ≡ message_at (table_of self.now) key.now) }
         ensures unread { admits self.now.filter key.now ≡ false → (result ≡ Ok None) × ReadsNone (P.counts port.old) (P.counts port.new) }
         ensures reach { S.TELLS ≡ true → (P.counts port.new).reads ≤ (P.counts port.old).reads + reach_of self.now key.now }
+
+        // On every device.
+        ensures path { admits self.now.filter key.now ≡ true →
+            IfOk result (IsFoundBy (G.shows pager.now) self.now key.now (P.counts port.old) (P.counts port.new)) }
+        ensures most { (P.counts port.new).reads ≤ (P.counts port.old).reads + page_total self.now.parts }
         ensures counts { OnlyReads (P.counts port.old) (P.counts port.new) }
+        ensures faults { OnOk result ((P.counts port.new).faults ≡ (P.counts port.old).faults) }
         ensures cause { IfErr result (HasBranchCause self.now (P.counts port.old) (P.counts port.new)) }
     {
         if is_admitted(&self.parts.filter, key) {

@@ -1,10 +1,10 @@
-ghost use Rattle.std.specs.Prelude.{◌≡◌, IfOk, IfErr};
-ghost use Rattle.spl_page.specs.PageFault.{IsFaultOf};
+ghost use Rattle.std.specs.Prelude.{◌≡◌, None, IfOk};
+ghost use Rattle.spl_port.specs.Page.{page_fault};
+ghost use Rattle.spl_page.specs.AnyPage.{shown_of};
 ghost use Rattle.spl_branch.specs.Visiting.{GoesBelow, visit_of};
 
-use spl_message::{Key, Message};
-use spl_page::{PageFault, find_child, find_message};
-use spl_port::{At, PAGE_BYTES};
+use spl_message::{HashedKey, Message, NoMemory};
+use spl_page::AnyPage;
 use std::alloc::Global;
 
 /// What a page says of a key.
@@ -17,24 +17,24 @@ pub(crate) enum Visit {
 }
 
 impl Visit {
-    /// What the bytes of the page at the place say of the key. Nothing is copied but the message.
-    pub(crate) fn read(
-        alloc: Global,
-        bytes: &[u8; PAGE_BYTES],
-        at: At,
-        key: &Key,
-    ) -> Result<Visit, PageFault>
-        ensures ok { IfOk result (λ visit. visit ≡ visit_of (record { at = at; bytes = bytes.now }) key.now) }
-        ensures below { IfOk result (GoesBelow at.page) }
-        ensures err { IfErr result (IsFaultOf at bytes.now) }
+    /// What the page says of the key. Nothing is copied but the message.
+    pub(crate) fn read(alloc: Global, page: &AnyPage, key: &HashedKey) -> Result<Visit, NoMemory>
+        ensures ok { IfOk result (λ visit. visit ≡ visit_of (shown_of page.now) key.now) }
+        ensures below { IfOk result (GoesBelow (shown_of page.now).at.page) }
+        ensures sound { page_fault (shown_of page.now).at (shown_of page.now).bytes ≡ None }
     {
-        if at.leaf {
-            return Ok(Visit::Found(find_message(alloc, bytes, at, key)?));
-        }
-        match find_child(bytes, at, key) {
-            Ok(Some(child)) => Ok(Visit::Child(child)),
-            Ok(None) => Ok(Visit::Found(None)),
-            Err(damaged) => Err(PageFault::Damaged(damaged)),
+        // A page is of the kind that its place asks for.
+        let _at = page.at();
+        let key = key.key();
+        match page {
+            AnyPage::Leaf(leaf) => match leaf.find(key) {
+                Some(message) => Ok(Visit::Found(Some(message.copy(alloc)?))),
+                None => Ok(Visit::Found(None)),
+            },
+            AnyPage::Index(index) => match index.child(key) {
+                Some(child) => Ok(Visit::Child(child)),
+                None => Ok(Visit::Found(None)),
+            },
         }
     }
 }

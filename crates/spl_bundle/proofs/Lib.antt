@@ -2,3 +2,4 @@ pub mod Windows
 pub mod Soundness
 pub mod Runs
 pub mod Copies
+pub mod Live

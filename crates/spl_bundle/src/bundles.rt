@@ -1,25 +1,30 @@
 //! `Bundles`: the queue in its slots.
 //!
-//! The list with number n lies in slot n % 24. So a list never moves: it is written once where it stands,
-//! and the lists at the front are dropped by raising a number. What a slot holds of a list that no longer
+//! The bundle with number n lies in slot n % 24. So a bundle never moves: it is written once where it stands,
+//! and the bundles at the front are dropped by raising a number. What a slot holds of a bundle that no longer
 //! stands is not seen, and goes when the slot takes its next list.
-ghost use Rattle.std.specs.Prelude.{◌≡◌, ◌+◌, ◌-◌, ◌%◌, ◌^◌, ◌<◌, ◌≤◌, ◌↔◌, min, [], length, map, All, IsTrue, IsOk, IfOk, OnOk, OnErr, Err};
-ghost use Rattle.spl_bundle.specs.Numbered.{next_of, list_of, pushed, dropped_below, merged, IsWithinLimits};
+ghost use Rattle.std.specs.Prelude.{◌≡◌, ◌+◌, ◌-◌, ◌^◌, ◌<◌, ◌≤◌, ◌↔◌, min, [], length, IsTrue, IsOk, IfOk, OnOk, OnErr, Err};
+ghost use Rattle.spl_bundle.specs.Numbered.{bundle_at, next_of, live, pushed, dropped_below, merged, marked, released, IsWithinLimits};
 
 use crate::Limit;
-use crate::slots::{Slot, copy_slots, empty_slots, fill, slot_of};
+use crate::slots::{Slot, copy_slots, empty_slots, fill, fill_joined, mark, release, slot_of};
 use std::alloc::Global;
 use std::marker::Model;
 
-/// How many lists can stand.
+/// How many bundles can stand.
 pub const MAX_LISTS: usize = 24;
 
-/// How many branches a list can have.
+/// How many branches a bundle can have.
 pub const MAX_BRANCHES: usize = 32;
 
-/// Numbered lists of branch numbers, oldest first. In a clause it is the first list's number and the lists.
+const _: () = prove!(MAX_LISTS == 24);
+
+const _: () = prove!(MAX_BRANCHES == 32);
+
+/// Numbered bundles, oldest first: lists of branch numbers, each with the actor that marked it, if any. In a
+/// clause it is the first bundle's number and the bundles.
 ///
-/// It takes about 6.5 KiB in place, so it is better kept behind a box and lent than moved about.
+/// It takes about 6.5 KiB in place: keep it in a `Box` and pass references.
 #[derive(Debug, Drop)]
 pub struct Bundles {
     slots: [Slot; MAX_LISTS],
@@ -40,9 +45,9 @@ impl Model for Bundles {
 }
 
 impl Bundles {
-    /// No list stands, and the next one gets the number `first`.
+    /// An empty queue. The next bundle gets the number `first`.
     pub fn new(alloc: Global, first: u64) -> Bundles
-        ensures { result ≡ record { first = first; lists = [] } }
+        ensures { result ≡ record { first = first; bundles = [] } }
     {
         Bundles {
             slots: empty_slots(alloc),
@@ -62,7 +67,7 @@ impl Bundles {
         }
     }
 
-    /// The number of the oldest list, or of the next one where none stands.
+    /// The number of the oldest bundle, or of the next one where none stands.
     pub fn first(&self) -> u64
         ensures value { result ≡ self.now.first }
         ensures limits { IsWithinLimits self.now }
@@ -70,7 +75,7 @@ impl Bundles {
         self.first
     }
 
-    /// The number that the next list gets.
+    /// The number that the next bundle gets.
     pub fn next(&self) -> u64
         ensures value { result ≡ next_of self.now }
         ensures limits { IsWithinLimits self.now }
@@ -78,53 +83,105 @@ impl Bundles {
         self.next
     }
 
-    /// Whether there is no room for one more list.
+    /// Whether there is no room for one more bundle.
     pub fn is_full(&self) -> bool
-        ensures full { IsTrue result ↔ (length self.now.lists ≡ MAX_LISTS) }
+        ensures full { IsTrue result ↔ (length self.now.bundles ≡ MAX_LISTS) }
         ensures limits { IsWithinLimits self.now }
     {
         self.next - self.first == MAX_LISTS as u64
     }
 
-    /// The list with this number.
+    /// The branches of the bundle with this number.
     pub fn list(&self, number: u64) -> &[u64]
         requires stands { self.now.first ≤ number }
         requires made { number < next_of self.now }
-        ensures { result.now ≡ list_of self.now number }
+        ensures { result.now ≡ (bundle_at self.now number).branches }
     {
-        self.slots[slot_of(number)].as_slice()
+        self.slots[slot_of(number)].branches.as_slice()
     }
 
-    /// Adds a copy of the list at the end, and answers its number.
+    /// The actor whose mark the bundle carries.
+    pub fn owner(&self, number: u64) -> Option<u32>
+        requires stands { self.now.first ≤ number }
+        requires made { number < next_of self.now }
+        ensures { result ≡ (bundle_at self.now number).owner }
+    {
+        self.slots[slot_of(number)].owner
+    }
+
+    /// How many branches the bundles from the mark on have together.
+    pub fn live_len(&self, mark: u64) -> usize
+        ensures { result ≡ length (live self.now mark) }
+    {
+        let mut count = 0;
+        let from = self.first().max(mark);
+        for number in from..self.next() {
+            count += self.list(number).len();
+        }
+        count
+    }
+
+    /// Adds a copy of the list at the end, without a mark. Returns its number.
     pub fn push(&mut self, list: &[u64]) -> Result<u64, Limit>
         requires { next_of self.old < 2 ^ 63 }
         ensures number { IfOk result (λ number. number ≡ next_of self.old) }
         ensures ok { OnOk result (self.new ≡ pushed self.old list.now) }
-        ensures accepted { IsOk result ↔ ((length self.old.lists < MAX_LISTS) × (length list.now ≤ MAX_BRANCHES)) }
+        ensures accepted { IsOk result ↔ ((length self.old.bundles < MAX_LISTS) × (length list.now ≤ MAX_BRANCHES)) }
 
         // That the queue is full is said first.
-        ensures lists { length self.old.lists ≡ MAX_LISTS → result ≡ Err (Limit.Lists MAX_LISTS) }
-        ensures branches { length self.old.lists < MAX_LISTS → MAX_BRANCHES < length list.now
+        ensures lists { length self.old.bundles ≡ MAX_LISTS → result ≡ Err (Limit.Lists MAX_LISTS) }
+        ensures branches { length self.old.bundles < MAX_LISTS → MAX_BRANCHES < length list.now
             → result ≡ Err (Limit.Branches (min (length list.now) u32.MAX)) }
         ensures err { OnErr result (self.new ≡ self.old) }
     {
-        if self.is_full() {
-            return Err(Limit::Lists {
-                lists: MAX_LISTS as u32,
-            });
-        }
-        if list.len() > MAX_BRANCHES {
-            return Err(Limit::Branches {
-                branches: list.len().min(u32::MAX as usize) as u32,
-            });
-        }
+        self.admit(list.len())?;
         let number = self.next;
         fill(&mut self.slots, number, list);
         self.next = number + 1;
         Ok(number)
     }
 
-    /// Drops the lists below this number.
+    /// Adds the bundles of another queue from the mark on, joined to one, without a mark. Returns its number.
+    pub fn push_from(&mut self, other: &Bundles, mark: u64) -> Result<u64, Limit>
+        requires { next_of self.old < 2 ^ 63 }
+        ensures number { IfOk result (λ number. number ≡ next_of self.old) }
+        ensures ok { OnOk result (self.new ≡ pushed self.old (live other.now mark)) }
+        ensures accepted { IsOk result ↔ ((length self.old.bundles < MAX_LISTS) × (length (live other.now mark) ≤ MAX_BRANCHES)) }
+
+        // That the queue is full is said first.
+        ensures lists { length self.old.bundles ≡ MAX_LISTS → result ≡ Err (Limit.Lists MAX_LISTS) }
+        ensures branches { length self.old.bundles < MAX_LISTS → MAX_BRANCHES < length (live other.now mark)
+            → result ≡ Err (Limit.Branches (min (length (live other.now mark)) u32.MAX)) }
+        ensures err { OnErr result (self.new ≡ self.old) }
+    {
+        self.admit(other.live_len(mark))?;
+        let number = self.next;
+        fill_joined(&mut self.slots, number, other, mark);
+        self.next = number + 1;
+        Ok(number)
+    }
+
+    /// Whether a list of so many branches is taken, and else why not.
+    fn admit(&self, branches: usize) -> Result<(), Limit>
+        ensures accepted { IsOk result ↔ ((length self.now.bundles < MAX_LISTS) × (branches ≤ MAX_BRANCHES)) }
+        ensures lists { length self.now.bundles ≡ MAX_LISTS → result ≡ Err (Limit.Lists MAX_LISTS) }
+        ensures branches { length self.now.bundles < MAX_LISTS → MAX_BRANCHES < branches
+            → result ≡ Err (Limit.Branches (min branches u32.MAX)) }
+    {
+        if self.is_full() {
+            return Err(Limit::Lists {
+                lists: MAX_LISTS as u32,
+            });
+        }
+        if branches > MAX_BRANCHES {
+            return Err(Limit::Branches {
+                branches: branches.min(u32::MAX as usize) as u32,
+            });
+        }
+        Ok(())
+    }
+
+    /// Drops the bundles below this number.
     pub fn drop_below(&mut self, number: u64)
         requires { number ≤ next_of self.old }
         ensures { self.new ≡ dropped_below self.old number }
@@ -134,8 +191,16 @@ impl Bundles {
         }
     }
 
-    /// Merges the lists from `first` up to `last`: the last holds the output alone, or nothing, and the
-    /// others are empty. Those that no longer stand are passed over.
+    /// Drops every bundle. The next one gets the number `first`.
+    pub fn restart(&mut self, first: u64)
+        ensures { self.new ≡ record { first = first; bundles = [] } }
+    {
+        self.first = first;
+        self.next = first;
+    }
+
+    /// Merges the bundles from `first` up to `last`: the last holds the output alone, or nothing, the others
+    /// are empty, and none of them keeps its mark. Those that no longer stand are passed over.
     pub fn merge(&mut self, first: u64, last: u64, output: Option<u64>)
         requires in_order { first ≤ last }
         requires stands { self.old.first ≤ last }
@@ -147,5 +212,25 @@ impl Bundles {
             fill(&mut self.slots, number, &[]);
         }
         fill(&mut self.slots, last, output.as_slice());
+    }
+
+    /// Gives the bundles from `first` up to `last` an owner, or none. Those that no longer stand are passed over.
+    pub fn set_owner(&mut self, first: u64, last: u64, owner: Option<u32>)
+        requires in_order { first ≤ last }
+        requires stands { self.old.first ≤ last }
+        requires made { last < next_of self.old }
+        ensures { self.new ≡ marked self.old first last owner }
+    {
+        let from = self.first.max(first);
+        for number in from..last + 1 {
+            mark(&mut self.slots, number, owner);
+        }
+    }
+
+    /// Clears every mark of the actor.
+    pub fn release(&mut self, actor: u32)
+        ensures { self.new ≡ released self.old actor }
+    {
+        release(&mut self.slots, actor);
     }
 }

@@ -1,7 +1,8 @@
-//! The bundles of a node: a queue of lists of branch numbers, where the lists have consecutive numbers.
+//! The bundles of a node: a queue of lists of branch numbers, numbered consecutively.
 //!
-//! New lists come at the end, old ones leave at the front, and a run of lists can be merged into one. All
-//! room is there from the making on, so no call takes memory.
+//! New bundles come at the end, old ones leave at the front, and a run of bundles can be merged into one. Each
+//! bundle may carry the mark of an actor that is about to merge it. All space is reserved by `new`, so no call takes
+//! memory.
 #![tactic(auto)]
 
 mod bundles;

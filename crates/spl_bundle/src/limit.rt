@@ -4,9 +4,9 @@ use std::fmt;
 /// Why a list is not taken.
 #[derive(Clone, Copy, Debug, PartialEq, Eq, Hash)]
 pub enum Limit {
-    /// As many lists stand as there is room for.
+    /// The queue is full.
     Lists { lists: u32 },
-    /// The list has more branches than one list may have. The count stops at the type's end.
+    /// The list has more branches than a bundle may have. The count saturates at `u32::MAX`.
     Branches { branches: u32 },
 }
 

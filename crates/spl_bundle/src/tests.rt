@@ -52,3 +52,53 @@ fn a_merge_leaves_a_copy_as_it_was(rt: HostRuntime) {
     assert_eq!(rt; copy.list(23), [23, 40].as_slice());
     assert_eq!(rt; copy.list(24), [24, 40].as_slice());
 }
+
+#[test]
+fn a_merge_of_one_actors_run_keeps_the_marks_of_the_other(rt: HostRuntime) {
+    let mut bundles = Bundles::new(rt.alloc(), 0);
+    for number in 0..4 {
+        assert_eq!(rt; bundles.next(), number);
+        assert_eq!(rt; bundles.push(&[number]), Ok(number));
+    }
+    assert_eq!(rt; bundles.next(), 4);
+    assert_eq!(rt; bundles.first(), 0);
+    bundles.set_owner(0, 1, Some(5));
+    bundles.set_owner(2, 3, Some(6));
+    assert_eq!(rt; bundles.next(), 4);
+    assert_eq!(rt; bundles.first(), 0);
+    assert_eq!(rt; bundles.owner(1), Some(5));
+    bundles.merge(0, 1, Some(9));
+    assert_eq!(rt; bundles.next(), 4);
+    assert_eq!(rt; bundles.first(), 0);
+    assert_eq!(rt; bundles.list(1), [9].as_slice());
+    assert_eq!(rt; bundles.owner(0), None);
+    assert_eq!(rt; bundles.owner(1), None);
+    assert_eq!(rt; bundles.owner(2), Some(6));
+    assert_eq!(rt; bundles.owner(3), Some(6));
+    bundles.release(6);
+    assert_eq!(rt; bundles.next(), 4);
+    assert_eq!(rt; bundles.first(), 0);
+    assert_eq!(rt; bundles.owner(3), None);
+}
+
+#[test]
+fn live_lists_are_joined_in_another_queue(rt: HostRuntime) {
+    let mut parent = Bundles::new(rt.alloc(), 7);
+    for number in 7..10 {
+        assert_eq!(rt; parent.next(), number);
+        assert_eq!(rt; parent.push(&[number, 40]), Ok(number));
+    }
+    assert_eq!(rt; parent.live_len(8), 4);
+    let mut child = Bundles::new(rt.alloc(), 0);
+    assert_eq!(rt; child.push_from(&parent, 8), Ok(0));
+    assert_eq!(rt; child.next(), 1);
+    assert_eq!(rt; child.push_from(&parent, 10), Ok(1));
+    assert_eq!(rt; child.first(), 0);
+    assert_eq!(rt; child.next(), 2);
+    assert_eq!(rt; child.list(0), [8, 40, 9, 40].as_slice());
+    assert_eq!(rt; child.list(1), [].as_slice());
+    assert_eq!(rt; parent.next(), 10);
+    assert_eq!(rt; parent.push(&[9; 32]), Ok(10));
+    let refusal = Limit::Branches { branches: 36 };
+    assert_eq!(rt; child.push_from(&parent, 8), Err(refusal));
+}

@@ -11,7 +11,7 @@ use Rattle.std.proofs.lemmas.List.Sums.{sum_by-cons, sum_by_push}
 use Rattle.spl_message.specs.declared.message.Message.{Message}
 use Rattle.spl_message.specs.declared.message.Message.TheVariants.{Insert, Delete, Update}
 use Rattle.spl_message.specs.Key.{AreRising, is_below}
-use Rattle.spl_message.specs.Table.{Table, IsTable}
+use Rattle.spl_message.specs.Entries.{Entries, AreEntries}
 use Rattle.spl_port.specs.declared.at.At.{At}
 use Rattle.spl_port.specs.Page.{LeafRow, IsLeafPage, Rows, leaf_row, leaf_row_length, leaf_rows, is_rising, rows_of}
 use Rattle.spl_port.specs.Seal.{begins_leaf}
@@ -29,17 +29,17 @@ message_back key (Insert value) = refl
 message_back key Delete = refl
 message_back key (Update operand) = refl
 
-pub table_back : (table : Table) → map table_entry (leaf_rows_of (leaf_entries_of table)) ≡ table
+pub table_back : (table : Entries) → map table_entry (leaf_rows_of (leaf_entries_of table)) ≡ table
 table_back [] = refl
 table_back (entry ∷ table) =
     ap (λ first. first ∷ map table_entry (leaf_rows_of (leaf_entries_of table))) (message_back entry.0 entry.1)
     ∙ ap (λ more. entry ∷ more) (table_back table)
 
-keys_are : (table : Table) → leaf_keys (leaf_entries_of table) ≡ keys_of table
+keys_are : (table : Entries) → leaf_keys (leaf_entries_of table) ≡ keys_of table
 keys_are [] = refl
 keys_are (entry ∷ table) = ap (λ keys. entry.0 ∷ keys) (keys_are table)
 
-sum_is : (table : Table) → sum_by (λ entry. leaf_entry_length entry.key entry.message) (leaf_entries_of table) ≡ sum_by (λ entry. leaf_entry_length entry.0 entry.1) table
+sum_is : (table : Entries) → sum_by (λ entry. leaf_entry_length entry.key entry.message) (leaf_entries_of table) ≡ sum_by (λ entry. leaf_entry_length entry.0 entry.1) table
 sum_is [] = refl
 sum_is (entry ∷ table) =
     omega (
@@ -49,11 +49,11 @@ sum_is (entry ∷ table) =
       sum_by-cons (λ (e : List ℕ × Message). leaf_entry_length e.0 e.1) entry table,
     )
 
-length_is : (table : Table) → leaf_length (leaf_entries_of table) ≡ table_length table
+length_is : (table : Entries) → leaf_length (leaf_entries_of table) ≡ table_length table
 length_is table = omega (arith, sum_is table)
 
 -- the table that was written is read
-pub reads : (table : Table) (count : ℕ) (bytes : List ℕ) → IsWritten table count bytes → written_table count bytes ≡ table
+pub reads : (table : Entries) (count : ℕ) (bytes : List ℕ) → IsWritten table count bytes → written_table count bytes ≡ table
 unfolding written_table
 reads table count bytes is =
     let entries = leaf_entries_of table in
@@ -77,9 +77,9 @@ none_written bytes is = record {
 }
 
 -- one more entry is written behind the others
-pub writes : (table : Table) (count : ℕ) (bytes room more : List ℕ) (entry : List ℕ × Message) → IsWritten table count bytes
+pub writes : (table : Entries) (count : ℕ) (bytes room more : List ℕ) (entry : List ℕ × Message) → IsWritten table count bytes
     → drop 16 room ≡ drop 16 bytes → 16 ≤ length room → more ≡ room ++ leaf_entry_text (leaf_entry_of entry) → IsEntry (leaf_entry_of entry)
-    → IsTable (table ++ entry ∷ []) → table_length table + leaf_entry_length entry.0 entry.1 ≤ 4096
+    → AreEntries (table ++ entry ∷ []) → table_length table + leaf_entry_length entry.0 entry.1 ≤ 4096
     → IsWritten (table ++ entry ∷ []) (count + 1) more
 writes table count bytes room more entry is same begun text one order fits =
     let entries = leaf_entries_of table in
@@ -99,19 +99,19 @@ writes table count bytes room more entry is same begun text one order fits =
     }
 
 -- how many bytes are written, and how many entries there can be
-pub bytes_are : (table : Table) (count : ℕ) (bytes : List ℕ) → IsWritten table count bytes → 16 + (length bytes - 16) ≡ table_length table
+pub bytes_are : (table : Entries) (count : ℕ) (bytes : List ℕ) → IsWritten table count bytes → 16 + (length bytes - 16) ≡ table_length table
 bytes_are table count bytes is = omega (arith, length-drop 16 bytes, ap length is.text, text_length (leaf_entries_of table), length_is table)
 
-at_least : (table : Table) → AllByRecursion IsEntry (leaf_entries_of table) → 16 + 5 * length table ≤ table_length table
+at_least : (table : Entries) → AllByRecursion IsEntry (leaf_entries_of table) → 16 + 5 * length table ≤ table_length table
 at_least [] are = omega arith
 at_least (entry ∷ table) are =
     omega (arith, at_least table are.1, are.0.key.0, sum_by-cons (λ (e : List ℕ × Message). leaf_entry_length e.0 e.1) entry table)
 
-pub most : (table : Table) (count : ℕ) (bytes : List ℕ) → IsWritten table count bytes → 16 + 5 * length table ≤ table_length table
+pub most : (table : Entries) (count : ℕ) (bytes : List ℕ) → IsWritten table count bytes → 16 + 5 * length table ≤ table_length table
 most table count bytes is = at_least table (recursion_from_All IsEntry (leaf_entries_of table) is.entries)
 
 -- the page of a table that was written
-pub is_page : (table : Table) (count : ℕ) (bytes page : List ℕ) (at : At) (n : ℕ) → IsWritten table count bytes
+pub is_page : (table : Entries) (count : ℕ) (bytes page : List ℕ) (at : At) (n : ℕ) → IsWritten table count bytes
     → at.leaf ≡ true → at.page < 2 ^ 32 → at.branch < 2 ^ 64 → 0 < length table
     → page ≡ head_text 76 count at ++ (drop 16 bytes ++ replicate n 0)
     → IsLeafPage at page (leaf_rows_of (leaf_entries_of table))
@@ -127,7 +127,7 @@ is_page table count bytes page at n is leaf page_fits branch_fits some text =
     ∙ ap (λ (t : List ℕ). head_text 76 (length entries) at ++ (t ++ replicate n 0)) is.text in
     written at entries page n leaf page_fits branch_fits (few entries fits) (omega (arith, len, some)) (recursion_from_All IsEntry entries is.entries) rising bytes-are
 
-pub page_table : (table : Table) (at : At) (page : List ℕ) → IsLeafPage at page (leaf_rows_of (leaf_entries_of table)) → leaf_table page ≡ table
+pub page_table : (table : Entries) (at : At) (page : List ℕ) → IsLeafPage at page (leaf_rows_of (leaf_entries_of table)) → leaf_table page ≡ table
 unfolding leaf_table
 page_table table at page is = ap (map table_entry) (rows_are (leaf_rows page) (leaf_rows_of (leaf_entries_of table)) is.entries) ∙ table_back table
 
@@ -136,7 +136,7 @@ page_begins page body count at is = ap begins_leaf is
 
 -- ---- as the writer holds it
 
-pub holds : (table : Table) (count : ℕ) (bytes : List ℕ) → IsWritten table count bytes → IsWritten (written_table count bytes) count bytes
+pub holds : (table : Entries) (count : ℕ) (bytes : List ℕ) → IsWritten table count bytes → IsWritten (written_table count bytes) count bytes
 holds table count bytes is = subst (λ t. IsWritten t count bytes) (sym (reads table count bytes is)) is
 
 -- the same bytes stand behind the first 16
@@ -156,7 +156,7 @@ still_holds count bytes others same is =
     })
 
 -- whether one more entry fits, by the bytes that there are
-pub fits_by_bytes : (table : Table) (count size len need : ℕ) (bytes : List ℕ) → IsWritten table count bytes → size ≡ max (length bytes) 16
+pub fits_by_bytes : (table : Entries) (count size len need : ℕ) (bytes : List ℕ) → IsWritten table count bytes → size ≡ max (length bytes) 16
     → len ≡ need → len ≤ 580 → (leb size (4096 - len) ≡ true) ↔ (table_length table + need ≤ 4096)
 fits_by_bytes table count size len need bytes is size-is same short =
     let used = bytes_are table count bytes is in (
@@ -165,16 +165,16 @@ fits_by_bytes table count size len need bytes is size-is same short =
     )
 
 -- a first entry
-pub one_entry : (table : Table) (entry : List ℕ × Message) → table ≡ [] → IsTable (table ++ entry ∷ [])
+pub one_entry : (table : Entries) (entry : List ℕ × Message) → table ≡ [] → AreEntries (table ++ entry ∷ [])
 unfolding IsStrictlySortedBy
-one_entry table entry is = subst (λ (t : Table). IsTable (t ++ entry ∷ [])) (sym is) (tt, tt)
+one_entry table entry is = subst (λ (t : Entries). AreEntries (t ++ entry ∷ [])) (sym is) (tt, tt)
 
 -- one more entry, behind the last one
-pub entry_after : (table : Table) (last : Option (List ℕ)) (entry : List ℕ × Message) → Ends (keys_of table) last → MatchOption last (Unit {0}) (λ k. is_below k entry.0 ≡ true)
-    → IsTable (table ++ entry ∷ [])
+pub entry_after : (table : Entries) (last : Option (List ℕ)) (entry : List ℕ × Message) → Ends (keys_of table) last → MatchOption last (Unit {0}) (λ k. is_below k entry.0 ≡ true)
+    → AreEntries (table ++ entry ∷ [])
 entry_after table last entry ends above = subst AreRising (sym (map_push (λ (e : List ℕ × Message). e.0) table entry)) (rises_after (keys_of table) last entry.0 ends above)
 
-pub ends_at : (table : Table) (last : Option (List ℕ)) (entry : List ℕ × Message) → Ends (keys_of table) last → MatchOption last (Unit {0}) (λ k. is_below k entry.0 ≡ true)
+pub ends_at : (table : Entries) (last : Option (List ℕ)) (entry : List ℕ × Message) → Ends (keys_of table) last → MatchOption last (Unit {0}) (λ k. is_below k entry.0 ≡ true)
     → Ends (keys_of (table ++ entry ∷ [])) (Some entry.0)
 ends_at table last entry ends above =
     subst (λ keys. Ends keys (Some entry.0)) (sym (map_push (λ (e : List ℕ × Message). e.0) table entry)) (ends_push (keys_of table) last entry.0 ends above)

@@ -1,10 +1,9 @@
 pub mod FrameLemmas
+pub mod Halves
 pub mod IndexReading
-pub mod IndexSearching
 pub mod IndexTables
 pub mod IndexWriting
 pub mod LeafReading
-pub mod LeafSearching
 pub mod LeafTables
 pub mod LeafWriting
 pub mod Numbers
@@ -12,4 +11,7 @@ pub mod PageTables
 pub mod PageText
 pub mod Rising
 pub mod Rows
+pub mod Scanning
 pub mod Searching
+pub mod SoundTables
+pub mod Starts

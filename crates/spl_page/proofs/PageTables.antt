@@ -7,7 +7,7 @@ use Rattle.std.specs.Option.{option_and_then, option_map, option_or}
 use Rattle.std.proofs.lemmas.Bool.{ltb-true}
 use Rattle.std.proofs.lemmas.List.Elements.{All-from_recursion}
 use Rattle.spl_message.specs.Key.{AreRising}
-use Rattle.spl_message.specs.Table.{IsTable}
+use Rattle.spl_message.specs.Entries.{AreEntries}
 use Rattle.spl_port.specs.declared.at.At.{At}
 use Rattle.spl_port.specs.declared.damaged.Why.{Why}
 use Rattle.spl_port.specs.declared.damaged.Why.TheVariants.{Kind, Number, Count, Order, Rest}
@@ -51,7 +51,7 @@ each P row row_length holds (suc n) bytes =
 
 -- ---- a page against which nothing stands
 
-neither : (a b : Option Why) → option_or a b ≡ None → (a ≡ None) × (b ≡ None)
+pub neither : (a b : Option Why) → option_or a b ≡ None → (a ≡ None) × (b ≡ None)
 neither None b none = (refl, none)
 neither (Some why) b none = absurd cc
 
@@ -76,11 +76,11 @@ some_rows key (Some found) zero none some many = absurd cc
 some_rows key (Some found) (suc n) none some many = omega (arith, many found refl)
 
 -- its keys rise, and it has an entry
-record IsSound {R : Type 0} (key : R → List ℕ) (rows : List R) : Type 0 where
-  rising : is_rising (map key rows) ≡ true
-  some : 0 < length rows
+pub record IsSound {R : Type 0} (key : R → List ℕ) (rows : List R) : Type 0 where
+  pub rising : is_rising (map key rows) ≡ true
+  pub some : 0 < length rows
 
-sound_rows : {R : Type 0} (kind : ℕ) (key : R → List ℕ) (row : List ℕ → Option R) (row_length : List ℕ → ℕ) (at : At) (bytes : List ℕ)
+pub sound_rows : {R : Type 0} (kind : ℕ) (key : R → List ℕ) (row : List ℕ → Option R) (row_length : List ℕ → ℕ) (at : At) (bytes : List ℕ)
     → kind_fault kind key (rows_of row row_length (row_count bytes) (drop 16 bytes)) at bytes ≡ None
     → IsSound key (found_rows (rows_of row row_length (row_count bytes) (drop 16 bytes)))
 sound_rows kind key row row_length at bytes none =
@@ -93,20 +93,20 @@ sound_rows kind key row row_length at bytes none =
 
 -- ---- leaf pages
 
-table_keys : (rows : List LeafRow) → keys_of (map table_entry rows) ≡ map (λ row. row.key) rows
+pub table_keys : (rows : List LeafRow) → keys_of (map table_entry rows) ≡ map (λ row. row.key) rows
 table_keys [] = refl
 table_keys (row ∷ rows) = ap (λ keys. row.key ∷ keys) (table_keys rows)
 
-table_length : (rows : List LeafRow) → length (map table_entry rows) ≡ length rows
+pub table_length : (rows : List LeafRow) → length (map table_entry rows) ≡ length rows
 table_length [] = refl
 table_length (row ∷ rows) = ap suc (table_length rows)
 
-leaf_sound : (at : At) (bytes : List ℕ) → leaf_fault at bytes ≡ None → IsSound (λ row. row.key) (found_rows (leaf_rows bytes))
+pub leaf_sound : (at : At) (bytes : List ℕ) → leaf_fault at bytes ≡ None → IsSound (λ row. row.key) (found_rows (leaf_rows bytes))
 unfolding leaf_fault
 leaf_sound at bytes none = sound_rows 76 (λ row. row.key) leaf_row leaf_row_length at bytes none
 
 -- the keys of a sound leaf page rise
-pub leaf_table_rises : (at : At) (bytes : List ℕ) → leaf_fault at bytes ≡ None → IsTable (leaf_table bytes)
+pub leaf_table_rises : (at : At) (bytes : List ℕ) → leaf_fault at bytes ≡ None → AreEntries (leaf_table bytes)
 unfolding leaf_table
 leaf_table_rises at bytes none =
     rising_passed (keys_of (map table_entry (found_rows (leaf_rows bytes)))) (ap is_rising (table_keys (found_rows (leaf_rows bytes))) ∙ (leaf_sound at bytes none).rising)
@@ -123,7 +123,7 @@ leaf_fault_at at other bytes page branch = rw (page, branch) refl
 
 -- ---- index pages
 
-index_sound : (at : At) (bytes : List ℕ) → index_fault at bytes ≡ None → IsSound (λ row. row.key) (found_rows (index_rows at.page bytes))
+pub index_sound : (at : At) (bytes : List ℕ) → index_fault at bytes ≡ None → IsSound (λ row. row.key) (found_rows (index_rows at.page bytes))
 unfolding index_fault
 index_sound at bytes none = sound_rows 73 (λ row. row.key) (index_row at.page) index_row_length at bytes none
 

@@ -67,7 +67,7 @@ unfolding IsStrictlySortedBy
 passes_rising [] rising = refl
 passes_rising (key ∷ keys) rising = above_passes key keys rising.0 rising.1
 
-less_is : (o : Ordering) → is_lt o ≡ true → o ≡ Less
+pub less_is : (o : Ordering) → is_lt o ≡ true → o ≡ Less
 less_is Less is = refl
 less_is Equal is = absurd (cc)
 less_is Greater is = absurd (cc)

@@ -33,8 +33,7 @@ pub record IsSound (entries : List IndexEntry) (bytes : ℕ) : Type 0 where
   pub length : bytes ≡ min (index_length entries) (2 ^ 64 - 1)
 
 -- these are the entries that stand in a page with this number
-pub record IsFound (page : ℕ) (bytes : List ℕ) (entries : List IndexEntry) (rises : Bool) (end : ℕ) : Type 0 where
+pub record IsFound (page : ℕ) (bytes : List ℕ) (entries : List IndexEntry) (end : ℕ) : Type 0 where
   pub rows : index_rows page bytes ≡ Some (record { rows = index_rows_of entries; rest = drop end bytes })
-  pub rising : rises ≡ is_rising (first_keys entries)
   pub length : end ≡ index_length entries
   pub within : end ≤ 4096

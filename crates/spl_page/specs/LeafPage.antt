@@ -58,8 +58,7 @@ pub record IsSound (entries : List LeafEntry) (bytes : ℕ) : Type 0 where
   pub length : bytes ≡ min (leaf_length entries) (2 ^ 64 - 1)
 
 -- these are the entries that stand in a page
-pub record IsFound (bytes : List ℕ) (entries : List LeafEntry) (rises : Bool) (end : ℕ) : Type 0 where
+pub record IsFound (bytes : List ℕ) (entries : List LeafEntry) (end : ℕ) : Type 0 where
   pub rows : leaf_rows bytes ≡ Some (record { rows = leaf_rows_of entries; rest = drop end bytes })
-  pub rising : rises ≡ is_rising (leaf_keys entries)
   pub length : end ≡ leaf_length entries
   pub within : end ≤ 4096

@@ -3,7 +3,7 @@ use Rattle.std.specs.Prelude.{ℕ, ◌+◌, ◌==◌, if◌then◌else◌, List,
 use Rattle.spl_message.specs.declared.message.Message.{Message}
 use Rattle.spl_message.specs.declared.message.Message.TheVariants.{Insert, Delete, Update}
 use Rattle.spl_message.specs.Key.{is_below}
-use Rattle.spl_message.specs.Table.{Table}
+use Rattle.spl_message.specs.Entries.{Entries}
 use Rattle.spl_port.specs.Page.{LeafRow, IndexRow, Rows, leaf_rows, index_rows}
 use Rattle.spl_page.specs.IndexPage.{index_entry_length}
 use Rattle.spl_page.specs.LeafPage.{leaf_entry_length}
@@ -22,7 +22,7 @@ found_rows None = []
 found_rows (Some found) = found.rows
 
 -- the table that the bytes of a leaf page hold
-unfoldable pub leaf_table : List ℕ → Table
+unfoldable pub leaf_table : List ℕ → Entries
 leaf_table bytes = map table_entry (found_rows (leaf_rows bytes))
 
 -- the children in the bytes of an index page with this number
@@ -44,7 +44,7 @@ child_for [] key = None
 child_for (row ∷ rows) key = if is_below key row.key then None else Some (later (child_for rows key) row.child)
 
 -- how many bytes a leaf page with this table takes before its zeros
-abbrev pub table_length : Table → ℕ
+abbrev pub table_length : Entries → ℕ
 table_length table = 16 + sum_by (λ entry. leaf_entry_length entry.0 entry.1) table
 
 -- how many bytes an index page with these children takes before its zeros

@@ -3,7 +3,7 @@ ghost use Rattle.spl_page.specs.declared.fault.PageFault.TheVariants.{NoMemory a
 
 use spl_message::NoMemory;
 use spl_port::Damaged;
-use std::alloc::{AllocError, AllocFailed};
+use std::alloc::AllocError;
 use std::error::Error;
 use std::fmt;
 
@@ -31,6 +31,14 @@ impl From<NoMemory> for PageFault {
     ghost from_gives = { λ _ e. e ≡ WantOfMemory };
 
     fn from(_e: NoMemory) -> PageFault {
+        PageFault::NoMemory
+    }
+}
+
+impl From<AllocError> for PageFault {
+    ghost from_gives = { λ _ e. e ≡ WantOfMemory };
+
+    fn from(_e: AllocError) -> PageFault {
         PageFault::NoMemory
     }
 }

@@ -10,8 +10,11 @@ use spl_port::{At, Why};
 /// How many bytes stand before the entries.
 pub(crate) const HEAD_BYTES: usize = 16;
 
-/// The greatest number of bytes of a key.
-pub(crate) const KEY_LIMIT: usize = 64;
+/// The first byte of a leaf page.
+pub(crate) const LEAF_KIND: u8 = 0x4C;
+
+/// The first byte of an index page.
+pub(crate) const INDEX_KIND: u8 = 0x49;
 
 /// The format of the pages.
 const FORMAT: u8 = 1;
@@ -87,5 +90,10 @@ pub(crate) fn rows_fault(rising: bool, rest: &[u8]) -> Option<Why>
 fn is_zeros(bytes: &[u8]) -> bool
     ensures { result ≡ list_all (λ byte. byte == 0) bytes.now }
 {
-    bytes.iter().all(|byte| *byte == 0)
+    // No early exit: the compiler then tests many bytes at once.
+    let mut all = true;
+    for byte in bytes {
+        all &= *byte == 0;
+    }
+    all
 }

@@ -1,16 +1,17 @@
-ghost use Rattle.std.specs.Prelude.{◌≡◌, ◌+◌, ◌<◌, ◌≤◌, ◌↔◌, ◌&&◌, ◌++◌, [], ◌∷◌, false, length, All, flat_map, IsTrue, IfOk, IfErr, IfSome, OnOk, OnErr, MatchOption};
+ghost use Rattle.std.specs.Prelude.{◌≡◌, ◌+◌, ◌<◌, ◌≤◌, ◌↔◌, ◌++◌, [], ◌∷◌, false, length, All, flat_map, IsTrue, IfOk, IfErr, IfSome, OnOk, OnErr, MatchOption};
 ghost use Rattle.std.specs.Option.{option_map};
 ghost use Rattle.spl_message.specs.Key.{IsKey};
 ghost use Rattle.spl_port.specs.Page.{IsIndexPage, index_row, index_row_length, index_rows, is_rising};
 ghost use Rattle.spl_page.specs.PageFault.{IsFaultOf};
 ghost use Rattle.spl_page.specs.IndexPage.{IsFound, first_keys, index_entry_length, index_entry_text, index_length, index_row_of, index_rows_of};
 
-use crate::frame::{HEAD_BYTES, entry_count, head_fault, rows_fault, write_head};
+use crate::any_page::fault_of;
+use crate::frame::{HEAD_BYTES, INDEX_KIND, entry_count, write_head};
 use crate::index_slot::{ENTRY_HEAD, IndexSlot};
 use crate::{IndexEntry, PageFault};
 use byteorder::{BigEndian, ByteOrder};
 use spl_message::{Key, NoMemory};
-use spl_port::{At, Damaged, PAGE_BYTES, PageBytes, Why};
+use spl_port::{At, Damaged, PAGE_BYTES, PageBytes};
 use std::alloc::Global;
 use std::marker::Model;
 
@@ -85,7 +86,7 @@ impl IndexPage {
         ensures { IfOk result (λ page. IsIndexPage at page (index_rows_of self.now)) }
     {
         let entries = self.entries.as_slice();
-        let head = write_head(KIND, entries.len() as u16, at);
+        let head = write_head(INDEX_KIND, entries.len() as u16, at);
         let alloc = *self.entries.allocator();
         let mut out = Vec::with_capacity(alloc, PAGE_BYTES)?;
         out.extend_from_slice(&head)?;
@@ -100,17 +101,13 @@ impl IndexPage {
         ensures ok { IfOk result (λ page. IsIndexPage at bytes.now (index_rows_of page)) }
         ensures err { IfErr result (IsFaultOf at bytes.now) }
     {
-        let bytes = bytes.as_slice();
-        if let Some(why) = head_fault(KIND, at, bytes) {
+        if let Some(why) = fault_of(bytes, at) {
             return Err(PageFault::Damaged(Damaged { at, why }));
         }
-        let Some(found) = read_entries(alloc, bytes, at.page)? else {
-            let why = Why::Entry;
-            return Err(PageFault::Damaged(Damaged { at, why }));
+        let found = match read_entries(alloc, bytes, at.page)? {
+            Some(found) => found,
+            None => unreachable!(),
         };
-        if let Some(why) = rows_fault(found.rising, &bytes[found.end..]) {
-            return Err(PageFault::Damaged(Damaged { at, why }));
-        }
         Ok(IndexPage {
             entries: found.entries,
             bytes: found.end,
@@ -122,8 +119,6 @@ impl IndexPage {
 #[derive(Debug, Drop)]
 struct Found {
     entries: Vec<IndexEntry>,
-    /// Whether each key is above the one before it.
-    rising: bool,
     /// The place behind the last entry.
     end: usize,
 }
@@ -131,25 +126,19 @@ struct Found {
 /// The entries that stand in a page with this number, if they are there.
 fn read_entries(alloc: Global, bytes: &[u8], page: u32) -> Result<Option<Found>, NoMemory>
     requires { length bytes.now ≡ 4096 }
-    ensures { IfOk result (λ answer. MatchOption answer (index_rows page bytes.now ≡ None) (λ found. IsFound page bytes.now found.entries.items found.rising found.end)) }
+    ensures { IfOk result (λ answer. MatchOption answer (index_rows page bytes.now ≡ None) (λ found. IsFound page bytes.now found.entries.items found.end)) }
 {
     let mut entries = Vec::new(alloc);
-    let mut rising = true;
     let mut end = HEAD_BYTES;
     let count = entry_count(bytes);
     for _ in 0..count {
         let Some(entry) = read_entry(&bytes[end..], page) else {
             return Ok(None);
         };
-        rising &= rises(&entries, &entry.first);
         end += entry_length(&entry.first);
         entries.push(entry)?;
     }
-    Ok(Some(Found {
-        entries,
-        rising,
-        end,
-    }))
+    Ok(Some(Found { entries, end }))
 }
 
 /// The entry at the front of these bytes of a page with this number, if there is one.
@@ -163,16 +152,6 @@ fn read_entry(bytes: &[u8], page: u32) -> Option<IndexEntry>
     match Key::read(slot.key) {
         Ok(first) => Some(IndexEntry { child, first }),
         Err(_) => unreachable!(),
-    }
-}
-
-/// Whether the key is above those of the entries, which rise.
-fn rises(entries: &[IndexEntry], key: &Key) -> bool
-    ensures { is_rising (first_keys entries.now ++ key.now ∷ []) ≡ (is_rising (first_keys entries.now) && result) }
-{
-    match entries.last() {
-        Some(last) => last.first < *key,
-        None => true,
     }
 }
 

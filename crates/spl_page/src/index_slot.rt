@@ -1,7 +1,7 @@
 ghost use Rattle.std.specs.Prelude.{◌≡◌, ◌<◌, ◌≤◌, length};
 
-use crate::frame::KEY_LIMIT;
 use byteorder::{BigEndian, ByteOrder};
+use spl_message::KEY_LIMIT;
 
 /// How many bytes of an entry stand before its key.
 pub(crate) const ENTRY_HEAD: usize = 5;

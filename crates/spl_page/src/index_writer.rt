@@ -5,8 +5,8 @@ ghost use Rattle.spl_port.specs.Seal.{begins_leaf};
 ghost use Rattle.spl_page.specs.IndexPage.{index_entry_length};
 ghost use Rattle.spl_page.specs.Tables.{child_keys, children, children_length};
 
-use crate::frame::{HEAD_BYTES, write_head};
-use crate::index_page::{KIND, entry_length, write_entry};
+use crate::frame::{HEAD_BYTES, INDEX_KIND, write_head};
+use crate::index_page::{entry_length, write_entry};
 use crate::page_text::{begin_page, finish_page};
 use spl_message::{Key, NoMemory};
 use spl_port::{At, PAGE_BYTES, PageBytes};
@@ -88,7 +88,7 @@ impl IndexWriter {
         ensures ok { OnOk result (self.new ≡ []) }
         ensures err { OnErr result (self.new ≡ self.old) }
     {
-        let head = write_head(KIND, self.count, at);
+        let head = write_head(INDEX_KIND, self.count, at);
         let page = finish_page(&mut self.bytes, &head)?;
         self.count = 0;
         Ok(page)

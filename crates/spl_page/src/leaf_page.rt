@@ -1,20 +1,19 @@
-ghost use Rattle.std.specs.Prelude.{◌≡◌, ◌+◌, ◌<◌, ◌≤◌, ◌↔◌, ◌&&◌, ◌++◌, [], ◌∷◌, true, length, All, flat_map, IsTrue, IfOk, IfErr, IfSome, OnOk, OnErr, MatchOption};
+ghost use Rattle.std.specs.Prelude.{◌≡◌, ◌+◌, ◌<◌, ◌≤◌, ◌↔◌, ◌++◌, [], ◌∷◌, true, length, All, flat_map, IsTrue, IfOk, IfErr, IfSome, OnOk, OnErr, MatchOption};
 ghost use Rattle.std.specs.Option.{option_map};
 ghost use Rattle.spl_port.specs.Page.{IsLeafPage, is_rising, leaf_row, leaf_row_length, leaf_rows};
 ghost use Rattle.spl_page.specs.PageFault.{IsFaultOf};
+ghost use Rattle.spl_page.specs.Lent.{message_lent};
 ghost use Rattle.spl_page.specs.LeafPage.{IsEntry, IsFound, kind_of, leaf_entry_length, leaf_entry_text, leaf_keys, leaf_length, leaf_row_of, leaf_rows_of, value_of};
 
-use crate::frame::{HEAD_BYTES, entry_count, head_fault, rows_fault, write_head};
+use crate::any_page::fault_of;
+use crate::frame::{HEAD_BYTES, LEAF_KIND, entry_count, write_head};
 use crate::leaf_slot::{ENTRY_HEAD, LeafSlot};
-use crate::{LeafEntry, PageFault};
+use crate::{LeafEntry, LentMessage, PageFault};
 use byteorder::{BigEndian, ByteOrder};
 use spl_message::{Key, Message, NoMemory};
-use spl_port::{At, Damaged, PAGE_BYTES, PageBytes, Why};
+use spl_port::{At, Damaged, PAGE_BYTES, PageBytes};
 use std::alloc::Global;
 use std::marker::Model;
-
-/// The first byte of a leaf page.
-pub(crate) const KIND: u8 = 0x4C;
 
 /// A list of keys with their messages. The keys rise. In a clause it is that list.
 #[derive(Debug, Drop)]
@@ -85,7 +84,7 @@ impl LeafPage {
         ensures { IfOk result (λ page. IsLeafPage at page (leaf_rows_of self.now)) }
     {
         let entries = self.entries.as_slice();
-        let head = write_head(KIND, entries.len() as u16, at);
+        let head = write_head(LEAF_KIND, entries.len() as u16, at);
         let alloc = *self.entries.allocator();
         let mut out = Vec::with_capacity(alloc, PAGE_BYTES)?;
         out.extend_from_slice(&head)?;
@@ -100,17 +99,13 @@ impl LeafPage {
         ensures ok { IfOk result (λ page. IsLeafPage at bytes.now (leaf_rows_of page)) }
         ensures err { IfErr result (IsFaultOf at bytes.now) }
     {
-        let bytes = bytes.as_slice();
-        if let Some(why) = head_fault(KIND, at, bytes) {
+        if let Some(why) = fault_of(bytes, at) {
             return Err(PageFault::Damaged(Damaged { at, why }));
         }
-        let Some(found) = read_entries(alloc, bytes)? else {
-            let why = Why::Entry;
-            return Err(PageFault::Damaged(Damaged { at, why }));
+        let found = match read_entries(alloc, bytes)? {
+            Some(found) => found,
+            None => unreachable!(),
         };
-        if let Some(why) = rows_fault(found.rising, &bytes[found.end..]) {
-            return Err(PageFault::Damaged(Damaged { at, why }));
-        }
         Ok(LeafPage {
             entries: found.entries,
             bytes: found.end,
@@ -122,8 +117,6 @@ impl LeafPage {
 #[derive(Debug, Drop)]
 struct Found {
     entries: Vec<LeafEntry>,
-    /// Whether each key is above the one before it.
-    rising: bool,
     /// The place behind the last entry.
     end: usize,
 }
@@ -131,10 +124,9 @@ struct Found {
 /// The entries that stand in a page, if they are there.
 fn read_entries(alloc: Global, bytes: &[u8]) -> Result<Option<Found>, NoMemory>
     requires { length bytes.now ≡ 4096 }
-    ensures { IfOk result (λ answer. MatchOption answer (leaf_rows bytes.now ≡ None) (λ found. IsFound bytes.now found.entries.items found.rising found.end)) }
+    ensures { IfOk result (λ answer. MatchOption answer (leaf_rows bytes.now ≡ None) (λ found. IsFound bytes.now found.entries.items found.end)) }
 {
     let mut entries = Vec::new(alloc);
-    let mut rising = true;
     let mut end = HEAD_BYTES;
     let count = entry_count(bytes);
     for _ in 0..count {
@@ -142,15 +134,10 @@ fn read_entries(alloc: Global, bytes: &[u8]) -> Result<Option<Found>, NoMemory>
             return Ok(None);
         };
         let LeafEntry { key, message } = entry;
-        rising &= rises(&entries, &key);
         end += entry_length(&key, &message);
         entries.push(LeafEntry { key, message })?;
     }
-    Ok(Some(Found {
-        entries,
-        rising,
-        end,
-    }))
+    Ok(Some(Found { entries, end }))
 }
 
 /// The entry at the front of these bytes, if there is one.
@@ -167,18 +154,8 @@ fn read_entry(alloc: Global, bytes: &[u8]) -> Result<Option<LeafEntry>, NoMemory
         Ok(key) => key,
         Err(_) => unreachable!(),
     };
-    let message = slot.message(alloc)?;
+    let message = slot.message().copy(alloc)?;
     Ok(Some(LeafEntry { key, message }))
-}
-
-/// Whether the key is above those of the entries, which rise.
-fn rises(entries: &[LeafEntry], key: &Key) -> bool
-    ensures { is_rising (leaf_keys entries.now ++ key.now ∷ []) ≡ (is_rising (leaf_keys entries.now) && result) }
-{
-    match entries.last() {
-        Some(last) => last.key < *key,
-        None => true,
-    }
 }
 
 /// How many bytes an entry with this key and this message takes.
@@ -186,29 +163,37 @@ pub(crate) fn entry_length(key: &Key, message: &Message) -> usize
     ensures value { result ≡ leaf_entry_length key.now message.now }
     ensures short { result ≤ 580 }
 {
+    lent_length(key, LentMessage::of(message))
+}
+
+/// How many bytes an entry with this key and this message takes.
+pub(crate) fn lent_length(key: &Key, message: LentMessage<'_>) -> usize
+    ensures value { result ≡ leaf_entry_length key.now (message_lent message.entry) }
+    ensures short { result ≤ 580 }
+{
     ENTRY_HEAD + key.bytes().len() + value_bytes(message).len()
 }
 
 /// The value that stands in a message.
-fn value_bytes(message: &Message) -> &[u8]
-    ensures value { result.now ≡ value_of message.now }
+fn value_bytes(message: LentMessage<'_>) -> &[u8]
+    ensures value { result.now ≡ value_of (message_lent message.entry) }
     ensures short { length result.now ≤ 512 }
 {
     match message {
-        Message::Insert(value) => value.bytes(),
-        Message::Delete => &[],
-        Message::Update(operand) => operand.bytes(),
+        LentMessage::Insert(value) => value.bytes(),
+        LentMessage::Delete => &[],
+        LentMessage::Update(operand) => operand.bytes(),
     }
 }
 
 /// The number of a message's kind.
-fn kind_number(message: &Message) -> u8
-    ensures { result ≡ kind_of message.now }
+fn kind_number(message: LentMessage<'_>) -> u8
+    ensures { result ≡ kind_of (message_lent message.entry) }
 {
     match message {
-        Message::Insert(_) => 0,
-        Message::Delete => 1,
-        Message::Update(_) => 2,
+        LentMessage::Insert(_) => 0,
+        LentMessage::Delete => 1,
+        LentMessage::Update(_) => 2,
     }
 }
 
@@ -224,10 +209,22 @@ fn write_entries(out: &mut Vec<u8>, entries: &[LeafEntry]) -> Result<(), NoMemor
 }
 
 /// Puts the bytes of an entry at the end.
-pub(crate) fn write_entry(out: &mut Vec<u8>, key: &Key, message: &Message) -> Result<(), NoMemory>
+fn write_entry(out: &mut Vec<u8>, key: &Key, message: &Message) -> Result<(), NoMemory>
     ensures ok { OnOk result (out.new.items ≡ out.old.items ++ leaf_entry_text (record { key = key.now; message = message.now })) }
-    ensures err { OnErr result (out.new.items ≡ out.old.items) }
     ensures is_entry { IsEntry (record { key = key.now; message = message.now }) }
+{
+    write_lent(out, key, LentMessage::of(message))
+}
+
+/// Puts the bytes of an entry at the end.
+pub(crate) fn write_lent(
+    out: &mut Vec<u8>,
+    key: &Key,
+    message: LentMessage<'_>,
+) -> Result<(), NoMemory>
+    ensures ok { OnOk result (out.new.items ≡ out.old.items ++ leaf_entry_text (record { key = key.now; message = message_lent message.entry })) }
+    ensures err { OnErr result (out.new.items ≡ out.old.items) }
+    ensures is_entry { IsEntry (record { key = key.now; message = message_lent message.entry }) }
 {
     let key = key.bytes();
     let value = value_bytes(message);

@@ -1,17 +1,13 @@
-ghost use Rattle.std.specs.Prelude.{◌≡◌, ◌<◌, ◌≤◌, true, length, IfOk};
+ghost use Rattle.std.specs.Prelude.{◌≡◌, ◌<◌, ◌≤◌, true, length};
 ghost use Rattle.spl_port.specs.Page.{number_at};
 ghost use Rattle.spl_page.specs.LeafPage.{is_message};
 
-use crate::frame::KEY_LIMIT;
+use crate::{LentMessage, LentValue};
 use byteorder::{BigEndian, ByteOrder};
-use spl_message::{Message, NoMemory, Value};
-use std::alloc::Global;
+use spl_message::{KEY_LIMIT, VALUE_LIMIT};
 
 /// How many bytes of an entry stand before its key.
 pub(crate) const ENTRY_HEAD: usize = 4;
-
-/// The greatest number of bytes of a value.
-const VALUE_LIMIT: usize = 512;
 
 /// An entry of a leaf page, where it stands in the page's bytes.
 #[derive(Clone, Copy)]
@@ -28,6 +24,7 @@ impl<'a> LeafSlot<'a> {
     ghost use Rattle.std.specs.Prelude.{IfSome};
     ghost use Rattle.std.specs.Option.{option_map};
     ghost use Rattle.spl_port.specs.Page.{leaf_row, leaf_row_length};
+    ghost use Rattle.spl_page.specs.Lent.{message_lent};
     ghost use Rattle.spl_page.specs.Slots.{leaf_slot_length, leaf_slot_row, slot_message};
 
     /// The entry at the front of these bytes, if there is one.
@@ -60,14 +57,14 @@ impl<'a> LeafSlot<'a> {
         ENTRY_HEAD + self.key.len() + self.value.len()
     }
 
-    /// Its message, with a copy of its value.
-    pub(crate) fn message(&self, alloc: Global) -> Result<Message, NoMemory>
-        ensures { IfOk result (λ message. message ≡ slot_message self.now) }
+    /// Its message, lent.
+    pub(crate) fn message(&self) -> LentMessage<'a>
+        ensures { message_lent result ≡ slot_message self.now }
     {
         match self.kind {
-            0 => Ok(Message::Insert(copy_value(alloc, self.value)?)),
-            1 => Ok(Message::Delete),
-            _ => Ok(Message::Update(copy_value(alloc, self.value)?)),
+            0 => LentMessage::Insert(LentValue::of(self.value)),
+            1 => LentMessage::Delete,
+            _ => LentMessage::Update(LentValue::of(self.value)),
         }
     }
 }
@@ -88,16 +85,5 @@ fn is_message(kind: u8, len: usize) -> bool
         0 | 2 => len <= VALUE_LIMIT,
         1 => len == 0,
         _ => false,
-    }
-}
-
-/// A value of these bytes.
-fn copy_value(alloc: Global, bytes: &[u8]) -> Result<Value, NoMemory>
-    requires { length bytes.now ≤ 512 }
-    ensures { IfOk result (λ value. value ≡ bytes.now) }
-{
-    match Value::read(alloc, bytes) {
-        Ok(value) => Ok(value),
-        Err(_) => Err(NoMemory),
     }
 }

@@ -1,12 +1,14 @@
 ghost use Rattle.std.specs.Prelude.{◌≡◌, ◌+◌, ◌<◌, ◌≤◌, ◌↔◌, ◌++◌, [], ◌∷◌, true, length, None, IsTrue, IfOk, OnOk, OnErr};
-ghost use Rattle.spl_message.specs.Table.{IsTable};
+ghost use Rattle.spl_message.specs.Entries.{AreEntries};
 ghost use Rattle.spl_port.specs.Page.{leaf_fault};
 ghost use Rattle.spl_port.specs.Seal.{begins_leaf};
 ghost use Rattle.spl_page.specs.LeafPage.{leaf_entry_length};
+ghost use Rattle.spl_page.specs.Lent.{message_lent};
 ghost use Rattle.spl_page.specs.Tables.{leaf_table, table_length};
 
-use crate::frame::{HEAD_BYTES, write_head};
-use crate::leaf_page::{KIND, entry_length, write_entry};
+use crate::LentMessage;
+use crate::frame::{HEAD_BYTES, LEAF_KIND, write_head};
+use crate::leaf_page::{lent_length, write_lent};
 use crate::page_text::{begin_page, finish_page};
 use spl_message::{Key, Message, NoMemory};
 use spl_port::{At, PAGE_BYTES, PageBytes};
@@ -25,9 +27,9 @@ pub struct LeafWriter {
 }
 
 impl Model for LeafWriter {
-    ghost use Rattle.spl_message.specs.Table.{Table};
+    ghost use Rattle.spl_message.specs.Entries.{Entries};
 
-    ghost Value = { Table };
+    ghost Value = { Entries };
 
     ghost use Rattle.spl_page.specs.LeafWriter.{IsWritten, written_table};
 
@@ -60,18 +62,36 @@ impl LeafWriter {
         ensures value { IsTrue result ↔ (table_length self.now + leaf_entry_length key.now message.now ≤ 4096) }
         ensures short { leaf_entry_length key.now message.now ≤ 580 }
     {
-        self.bytes.len().max(HEAD_BYTES) <= PAGE_BYTES - entry_length(key, message)
+        self.fits_lent(key, LentMessage::of(message))
+    }
+
+    /// The same of a message that is lent.
+    pub fn fits_lent(&self, key: &Key, message: LentMessage<'_>) -> bool
+        ensures value { IsTrue result ↔ (table_length self.now + leaf_entry_length key.now (message_lent message.entry) ≤ 4096) }
+        ensures short { leaf_entry_length key.now (message_lent message.entry) ≤ 580 }
+    {
+        self.bytes.len().max(HEAD_BYTES) <= PAGE_BYTES - lent_length(key, message)
     }
 
     /// Puts a key with its message at the end.
     pub fn push(&mut self, key: &Key, message: &Message) -> Result<(), NoMemory>
-        requires rising { IsTable (self.old ++ (key.now, message.now) ∷ []) }
+        requires rising { AreEntries (self.old ++ (key.now, message.now) ∷ []) }
         requires fits { table_length self.old + leaf_entry_length key.now message.now ≤ 4096 }
         ensures ok { OnOk result (self.new ≡ self.old ++ (key.now, message.now) ∷ []) }
         ensures err { OnErr result (self.new ≡ self.old) }
     {
+        self.push_lent(key, LentMessage::of(message))
+    }
+
+    /// Puts a key with its message, which is lent, at the end.
+    pub fn push_lent(&mut self, key: &Key, message: LentMessage<'_>) -> Result<(), NoMemory>
+        requires rising { AreEntries (self.old ++ (key.now, message_lent message) ∷ []) }
+        requires fits { table_length self.old + leaf_entry_length key.now (message_lent message) ≤ 4096 }
+        ensures ok { OnOk result (self.new ≡ self.old ++ (key.now, message_lent message.entry) ∷ []) }
+        ensures err { OnErr result (self.new ≡ self.old) }
+    {
         begin_page(&mut self.bytes)?;
-        write_entry(&mut self.bytes, key, message)?;
+        write_lent(&mut self.bytes, key, message)?;
         self.count += 1;
         Ok(())
     }
@@ -87,7 +107,7 @@ impl LeafWriter {
         ensures ok { OnOk result (self.new ≡ []) }
         ensures err { OnErr result (self.new ≡ self.old) }
     {
-        let head = write_head(KIND, self.count, at);
+        let head = write_head(LEAF_KIND, self.count, at);
         let page = finish_page(&mut self.bytes, &head)?;
         self.count = 0;
         Ok(page)

@@ -4,29 +4,42 @@
 //! nothing of another place, and nothing damaged, gets past this crate.
 #![tactic(auto)]
 
+mod any_page;
 mod fault;
+mod form;
 mod frame;
 mod index_entry;
 mod index_page;
-mod index_search;
 mod index_slot;
 mod index_writer;
 mod leaf_entry;
 mod leaf_page;
-mod leaf_search;
 mod leaf_slot;
 mod leaf_writer;
+mod lent_entry;
+mod lent_message;
+mod lent_value;
 mod page_text;
+mod scan;
+mod slot;
+mod sound_index;
+mod sound_leaf;
+mod sound_page;
 
+pub use any_page::{AnyPage, page_ok};
 pub use fault::PageFault;
+pub use form::{Form, IndexForm, LeafForm};
 pub use index_entry::IndexEntry;
 pub use index_page::IndexPage;
-pub use index_search::find_child;
 pub use index_writer::IndexWriter;
 pub use leaf_entry::LeafEntry;
 pub use leaf_page::LeafPage;
-pub use leaf_search::find_message;
 pub use leaf_writer::LeafWriter;
+pub use lent_entry::LentEntry;
+pub use lent_message::LentMessage;
+pub use lent_value::LentValue;
+pub use slot::Slot;
+pub use sound_page::SoundPage;
 
 #[cfg(test)]
 mod search_tests;

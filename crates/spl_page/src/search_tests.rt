@@ -2,7 +2,8 @@ ghost use Rattle.std.specs.Prelude.{◌≤◌, length};
 
 use super::*;
 use spl_message::{Key, Message, Value};
-use spl_port::{At, Damaged, Why};
+use spl_port::{At, Damaged, PageBytes, Why};
+use std::alloc::Global;
 use std::test::Fail;
 
 /// Page 1 of branch 7, where a leaf page is wanted.
@@ -40,47 +41,51 @@ fn page(text: &[u8]) -> [u8; 4096]
     bytes
 }
 
-#[test]
-fn a_message_is_found_at_its_key_alone(rt: HostRuntime) -> Result<(), Fail> {
-    let bytes = page(MESSAGES);
-    let insert = Message::Insert(Value::read(rt.alloc(), b"1")?);
-    let update = Message::Update(Value::read(rt.alloc(), b"2")?);
-    let found = find_message(rt.alloc(), &bytes, LEAF, &Key::read(b"b")?)?;
-    assert_eq!(rt; found, Some(insert));
-    let found = find_message(rt.alloc(), &bytes, LEAF, &Key::read(b"d")?)?;
-    assert_eq!(rt; found, Some(Message::Delete));
-    let found = find_message(rt.alloc(), &bytes, LEAF, &Key::read(b"f")?)?;
-    assert_eq!(rt; found, Some(update));
-    for byte in [b'a', b'c', b'e', b'g'] {
-        let found = find_message(rt.alloc(), &bytes, LEAF, &Key::read(&[byte])?)?;
-        assert_eq!(rt; found, None);
+/// What is lent, in memory of its own.
+fn copied(alloc: Global, found: Option<LentMessage<'_>>) -> Result<Option<Message>, Fail> {
+    match found {
+        Some(message) => Ok(Some(message.copy(alloc)?)),
+        None => Ok(None),
     }
-    Ok(())
 }
 
 #[test]
-fn a_damaged_leaf_page_has_no_messages(rt: HostRuntime) -> Result<(), Fail> {
-    let key = Key::read(b"b")?;
+fn a_message_is_found_at_its_key_alone(rt: HostRuntime) -> Result<(), Fail> {
+    let alloc = rt.alloc();
+    let bytes = PageBytes::copy(alloc, &page(MESSAGES))?;
+    let AnyPage::Leaf(page) = AnyPage::check(alloc, bytes, LEAF)? else {
+        return Err("an index page".into());
+    };
+    let insert = Message::Insert(Value::read(alloc, b"1")?);
+    let update = Message::Update(Value::read(alloc, b"2")?);
     let cases = [
-        (0, b'I', Why::Kind),
-        (15, 8, Why::Number),
-        (3, 0, Why::Count),
-        (28, 3, Why::Entry),
-        (31, b'd', Why::Order),
-        (33, 1, Why::Rest),
+        (b'a', 0, None),
+        (b'b', 0, Some(insert)),
+        (b'c', 1, None),
+        (b'd', 1, Some(Message::Delete)),
+        (b'e', 2, None),
+        (b'f', 2, Some(update)),
+        (b'g', 3, None),
     ];
-    for (place, byte, why) in cases {
-        let mut bytes = page(MESSAGES);
-        bytes[place] = byte;
-        let fault = find_message(rt.alloc(), &bytes, LEAF, &key).err();
-        assert_eq!(rt; fault, Some(PageFault::Damaged(Damaged { at: LEAF, why })));
+    assert_eq!(rt; page.len(), 3);
+    for (byte, place, message) in cases {
+        let key = Key::read(&[byte])?;
+        assert_eq!(rt; page.seek(&key), place);
+        assert_eq!(rt; copied(alloc, page.find(&key))?, message);
+        if let Some(entry) = page.entry(page.seek(&key)) {
+            assert!(rt; entry.key >= key.bytes());
+        }
     }
     Ok(())
 }
 
 #[test]
 fn a_child_has_the_keys_from_its_first_key_on(rt: HostRuntime) -> Result<(), Fail> {
-    let bytes = page(CHILDREN);
+    let alloc = rt.alloc();
+    let bytes = PageBytes::copy(alloc, &page(CHILDREN))?;
+    let AnyPage::Index(page) = AnyPage::check(alloc, bytes, INDEX)? else {
+        return Err("a leaf page".into());
+    };
     let cases = [
         (b'a', None),
         (b'b', Some(1)),
@@ -91,16 +96,46 @@ fn a_child_has_the_keys_from_its_first_key_on(rt: HostRuntime) -> Result<(), Fai
         (b'g', Some(5)),
     ];
     for (byte, child) in cases {
-        let found = find_child(&bytes, INDEX, &Key::read(&[byte])?)?;
-        assert_eq!(rt; found, child);
+        assert_eq!(rt; page.child(&Key::read(&[byte])?), child);
     }
     Ok(())
 }
 
+/// Why the text with one byte changed is no page for the place.
+fn why(alloc: Global, text: &[u8], at: At, place: u8, byte: u8) -> Result<Option<PageFault>, Fail>
+    requires { length text.now ≤ 4096 }
+{
+    let mut bytes = page(text);
+    bytes[place as usize] = byte;
+    if page_ok(&bytes, at) {
+        return Err("a page that is damaged is sound".into());
+    }
+    let bytes = PageBytes::copy(alloc, &bytes)?;
+    Ok(AnyPage::check(alloc, bytes, at).err())
+}
+
 #[test]
-fn a_damaged_index_page_has_no_children(rt: HostRuntime) -> Result<(), Fail> {
-    let key = Key::read(b"b")?;
-    let cases = [
+fn a_damaged_page_is_refused_for_its_first_fault(rt: HostRuntime) -> Result<(), Fail> {
+    let leaf = [
+        (0, b'I', Why::Kind),
+        (15, 8, Why::Number),
+        (3, 0, Why::Count),
+        (28, 3, Why::Entry),
+        (31, b'd', Why::Order),
+        (33, 1, Why::Rest),
+    ];
+    assert!(rt; page_ok(&page(MESSAGES), LEAF));
+    for (place, byte, reason) in leaf {
+        let damaged = Damaged {
+            at: LEAF,
+            why: reason,
+        };
+        assert_eq!(rt;
+            why(rt.alloc(), MESSAGES, LEAF, place, byte)?,
+            Some(PageFault::Damaged(damaged))
+        );
+    }
+    let index = [
         (0, b'L', Why::Kind),
         (7, 7, Why::Number),
         (3, 0, Why::Count),
@@ -108,11 +143,16 @@ fn a_damaged_index_page_has_no_children(rt: HostRuntime) -> Result<(), Fail> {
         (33, b'd', Why::Order),
         (34, 1, Why::Rest),
     ];
-    for (place, byte, why) in cases {
-        let mut bytes = page(CHILDREN);
-        bytes[place] = byte;
-        let fault = find_child(&bytes, INDEX, &key).err();
-        assert_eq!(rt; fault, Some(Damaged { at: INDEX, why }));
+    assert!(rt; page_ok(&page(CHILDREN), INDEX));
+    for (place, byte, reason) in index {
+        let damaged = Damaged {
+            at: INDEX,
+            why: reason,
+        };
+        assert_eq!(rt;
+            why(rt.alloc(), CHILDREN, INDEX, place, byte)?,
+            Some(PageFault::Damaged(damaged))
+        );
     }
     Ok(())
 }

@@ -7,3 +7,4 @@ pub mod Turning
 pub mod Members
 pub mod Bits
 pub mod Hashes
+pub mod Spots

@@ -7,7 +7,9 @@ use Rattle.std.proofs.lemmas.List.Elements.{Contains-append_left, Contains-push,
 use Rattle.std.proofs.Math.Nat.{div-lt_iff_lt-mul}
 use Rattle.std.proofs.lemmas.Nat.{pow-add, pow_pos}
 use Rattle.spl_quotient.specs.Counts.{passing}
-use Rattle.spl_quotient.specs.Table.{Table, place_in_turn, position_in, home_in, has, prints_in}
+use Rattle.spl_quotient.specs.Table.{Table, place_in_turn, position_in, home_in, has, shows, spots_in, prints_in}
+use Rattle.spl_quotient.specs.Spot.{spot_of}
+use Rattle.spl_quotient.proofs.Spots.{spot-below}
 use Rattle.spl_quotient.specs.Filling.{HasPrint, print_at}
 use Rattle.spl_quotient.proofs.Turns.{place_ahead, place_round, place_within}
 use Rattle.spl_quotient.proofs.Turning.{position_ahead, position_round}
@@ -65,8 +67,8 @@ pub quotient_below : (q print : ℕ) → print < 2 ^ (q + 12) → print / 2 ^ 12
 quotient_below q print below = (div-lt_iff_lt-mul (pow_pos 12)).1 (rw (pow-add 2 q 12) at below)
 
 module _ (q : ℕ) (table : Table) (prints : List ℕ) (first : ℕ) (len : length table.slots ≡ 2 ^ q) (start : table.origin < 2 ^ q) (inside : 0 < length prints → first < length prints) (bits : All (λ print. print < 2 ^ (q + 12)) prints) (has_prints : (h r : ℕ) → (has table.slots h r ≡ true) ↔ HasPrint prints first table.origin (length table.slots) (length prints) h r) where
-  pub shown_is_built : (print : ℕ) → Contains (prints_in q table) print → Contains prints print
-  unfolding prints_in
+  pub shown_is_built : (print : ℕ) → Contains (spots_in q table) print → Contains prints print
+  unfolding spots_in
   shown_is_built print shown =
       let passes = contains_passing (λ print. has table.slots (home_in table.origin (length table.slots) print) (print % 2 ^ 12)) (2 ^ (q + 12)) print shown in
       let found = (has_prints (home_in table.origin (length table.slots) print) (print % 2 ^ 12)).0 passes.1 in
@@ -78,8 +80,8 @@ module _ (q : ℕ) (table : Table) (prints : List ℕ) (first : ℕ) (len : leng
       let same : slice_index prints place ≡ print = omega (arith, quotient, found.3) in
       subst (Contains prints) same (Contains-get_or prints place 0 placed)
 
-  pub built_is_shown : (print : ℕ) → Contains prints print → Contains (prints_in q table) print
-  unfolding prints_in
+  pub built_is_shown : (print : ℕ) → Contains prints print → Contains (spots_in q table) print
+  unfolding spots_in
   built_is_shown print built =
       passing_contains (λ print. has table.slots (home_in table.origin (length table.slots) print) (print % 2 ^ 12)) (2 ^ (q + 12)) print (All-contains (λ print. print < 2 ^ (q + 12)) prints print bits built) (
       (has_prints (home_in table.origin (length table.slots) print) (print % 2 ^ 12)).1 (
@@ -90,12 +92,25 @@ module _ (q : ℕ) (table : Table) (prints : List ℕ) (first : ℕ) (len : leng
       )
       )
 
--- a table shows a fingerprint if it has its remainder in the run of its home
-pub shown_iff : (q : ℕ) (table : Table) (print : ℕ) (answer : Bool) → answer ≡ has table.slots (home_in table.origin (length table.slots) print) (print % 2 ^ 12) → print < 2 ^ (q + 12) → IsTrue answer ↔ Contains (prints_in q table) print
+-- a table shows a fingerprint if it shows its spot
+pub shown_iff : (q : ℕ) (table : Table) (print : ℕ) (answer : Bool) → answer ≡ shows table (spot_of q print) → print < 2 ^ (q + 12) → IsTrue answer ↔ Contains (prints_in q table) print
 unfolding prints_in
 shown_iff q table print answer is below = (
-  λ yes. passing_contains (λ print. has table.slots (home_in table.origin (length table.slots) print) (print % 2 ^ 12)) (2 ^ (q + 12)) print below (sym is ∙ yes),
-  λ shown. is ∙ (contains_passing (λ print. has table.slots (home_in table.origin (length table.slots) print) (print % 2 ^ 12)) (2 ^ (q + 12)) print shown).1,
+  λ yes. passing_contains (λ print. shows table (spot_of q print)) (2 ^ (q + 12)) print below (sym is ∙ yes),
+  λ shown. is ∙ (contains_passing (λ print. shows table (spot_of q print)) (2 ^ (q + 12)) print shown).1,
+)
+
+-- the fingerprints that a table shows are those of the spots that it was built of
+pub shown_spots : (q : ℕ) (table : Table) (spots : List ℕ) → ((spot : ℕ) → Contains (spots_in q table) spot ↔ Contains spots spot)
+    → (print : ℕ) → Contains (prints_in q table) print ↔ ((print < 2 ^ (q + 12)) × Contains spots (spot_of q print))
+unfolding prints_in spots_in
+shown_spots q table spots built print = (
+  λ shown.
+      let passes = contains_passing (λ print. shows table (spot_of q print)) (2 ^ (q + 12)) print shown in
+      (passes.0, (built (spot_of q print)).0 (passing_contains (shows table) (2 ^ (q + 12)) (spot_of q print) (spot-below q print) passes.1)),
+  λ has.
+      let passes = contains_passing (shows table) (2 ^ (q + 12)) (spot_of q print) ((built (spot_of q print)).1 has.1) in
+      passing_contains (λ print. shows table (spot_of q print)) (2 ^ (q + 12)) print has.0 passes.1,
 )
 
 -- the first quotient is the number of a slot

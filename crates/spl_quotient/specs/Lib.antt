@@ -1,4 +1,5 @@
 pub mod Fnv
+pub mod Spot
 pub mod Slot
 pub mod Counts
 pub mod Table

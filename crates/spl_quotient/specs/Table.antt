@@ -1,6 +1,7 @@
 -- What a contract sees of a table of slots: the slots, read from one on that no run from before reaches.
 use Rattle.std.specs.Prelude.{◌≡◌, ℕ, suc, ◌+◌, ◌-◌, ◌/◌, ◌%◌, ◌^◌, Bool, true, false, ◌==◌, nat_lt, ◌&&◌, if◌then◌else◌, List, ◌++◌, length, take, drop, slice_index_or}
 use Rattle.spl_quotient.specs.Slot.{Slot, blank, is_used, begins_run}
+use Rattle.spl_quotient.specs.Spot.{spot_of}
 use Rattle.spl_quotient.specs.Counts.{tally, some_below, passing}
 
 -- the slots in the order in which their runs lie, and the number of the first of them
@@ -55,10 +56,17 @@ has slots home remainder =
 abbrev pub home_in : ℕ → ℕ → ℕ → ℕ
 home_in origin len print = position_in origin len (print / 2 ^ 12)
 
--- the fingerprints that lie in a table of 2 ^ q slots, in order
+-- the remainder of the spot lies in the run of its home
+abbrev pub shows : Table → ℕ → Bool
+shows table spot = has table.slots (home_in table.origin (length table.slots) spot) (spot % 2 ^ 12)
+
+-- the spots that a table of 2 ^ q slots shows, in order
+unfoldable pub spots_in : ℕ → Table → List ℕ
+spots_in q table = passing (shows table) (2 ^ (q + 12))
+
+-- the fingerprints whose spots it shows, in order
 unfoldable pub prints_in : ℕ → Table → List ℕ
-prints_in q table =
-    passing (λ print. has table.slots (home_in table.origin (length table.slots) print) (print % 2 ^ 12)) (2 ^ (q + 12))
+prints_in q table = passing (λ print. shows table (spot_of q print)) (2 ^ (q + 12))
 
 -- how runs lie
 pub record IsLaid (slots : List Slot) : Type 0 where

@@ -2,14 +2,15 @@ ghost use Rattle.std.specs.Prelude.{◌≡◌, ℕ, ◌+◌, ◌*◌, ◌/◌, �
 ghost use Rattle.std.specs.List.Sorted.{IsStrictlyIncreasing};
 ghost use Rattle.spl_quotient.specs.Fnv.{print_of, fingerprint_of};
 ghost use Rattle.spl_quotient.specs.Exponent.{IsExponent};
-ghost use Rattle.spl_quotient.specs.Table.{IsLaid, prints_in};
+ghost use Rattle.spl_quotient.specs.Spot.{spot_of};
+ghost use Rattle.spl_quotient.specs.Table.{IsLaid, spots_in};
 
 use crate::find::has;
-use crate::hash::fingerprint;
+use crate::hash::top_bits;
 use crate::lay::lay;
-use crate::prints::{farthest_ahead, in_order, prints_of_hashes, prints_of_keys};
+use crate::prints::{farthest_ahead, in_order, spot_of, spots_of_hashes, spots_of_keys};
 use crate::table::Table;
-use spl_message::{Key, NoMemory};
+use spl_message::{Key, NoMemory, fnv};
 use std::alloc::Global;
 use std::marker::Model;
 
@@ -46,8 +47,8 @@ impl Filter {
         ensures keys { IfOk result (λ filter. All (λ key. Contains filter.prints (fingerprint_of filter.q key)) keys.now) }
     {
         let q = exponent_of(keys.len());
-        let prints = prints_of_keys(alloc, keys, q)?;
-        filter_of(alloc, prints, q)
+        let spots = spots_of_keys(alloc, keys, q)?;
+        filter_of(alloc, spots, q)
     }
 
     /// The filter of the keys with these hashes, which may come in any order, and more than once.
@@ -58,8 +59,8 @@ impl Filter {
             → Contains filter.prints print ↔ Contains (map (print_of filter.q) hashes.now) print) }
     {
         let q = exponent_of(hashes.len());
-        let prints = prints_of_hashes(alloc, hashes, q)?;
-        filter_of(alloc, prints, q)
+        let spots = spots_of_hashes(alloc, hashes, q)?;
+        filter_of(alloc, spots, q)
     }
 
     /// The exponent: the filter has 2^q slots, and its fingerprints have q + 12 bits.
@@ -71,27 +72,35 @@ impl Filter {
     }
 
     /// Whether some key of the build has the fingerprint of the key.
+    #[tactic(auto, unfolding(crate::specs::Fnv::fingerprint_of))]
     pub fn admits(&self, key: &Key) -> bool
         ensures { IsTrue result ↔ Contains self.now.prints (fingerprint_of self.now.q key.now) }
     {
-        let print = fingerprint(key, self.q);
-        let home = self.table.position_of((print / 4096) as usize);
-        has(&self.table, home, (print % 4096) as u16)
+        self.admits_hash(fnv(key.bytes()))
+    }
+
+    /// Whether some key of the build has the fingerprint that is cut from the hash.
+    pub fn admits_hash(&self, hash: u64) -> bool
+        ensures { IsTrue result ↔ Contains self.now.prints (print_of self.now.q hash) }
+    {
+        let spot = spot_of(top_bits(hash, self.q), self.q);
+        let home = self.table.position_of((spot / 4096) as usize);
+        has(&self.table, home, (spot % 4096) as u16)
     }
 }
 
-/// The filter of these fingerprints.
-fn filter_of(alloc: Global, prints: Vec<u64>, q: u32) -> Result<Filter, NoMemory>
+/// The filter of the fingerprints with these spots.
+fn filter_of(alloc: Global, spots: Vec<u64>, q: u32) -> Result<Filter, NoMemory>
     requires least { 6 ≤ q }
     requires most { q ≤ 52 }
-    requires bits { All (λ print. print < 2 ^ (q + 12)) prints.items }
-    requires count { vec_len prints ≤ 2 ^ q }
+    requires bits { All (λ spot. spot < 2 ^ (q + 12)) spots.items }
+    requires count { vec_len spots ≤ 2 ^ q }
     ensures exponent { IfOk result (λ filter. filter.q ≡ q) }
     ensures prints { IfOk result (λ filter. (print : ℕ)
-        → Contains filter.prints print ↔ Contains prints.items print) }
+        → Contains filter.prints print ↔ ((print < 2 ^ (q + 12)) × Contains spots.items (spot_of q print))) }
 {
-    let prints = in_order(prints);
-    let table = table_of(alloc, prints.as_slice(), q)?;
+    let spots = in_order(spots);
+    let table = table_of(alloc, spots.as_slice(), q)?;
     Ok(Filter { table, q })
 }
 
@@ -116,32 +125,32 @@ fn slot_count(q: u32) -> usize
     1 << q
 }
 
-/// The quotient of the fingerprint at the place, if there are any.
-fn quotient_at(prints: &[u64], place: usize) -> usize
-    requires { 0 < length prints.now → place < length prints.now }
-    ensures some { 0 < length prints.now → result ≡ slice_index prints.now place / 2 ^ 12 }
-    ensures none { length prints.now ≡ 0 → result ≡ 0 }
+/// The quotient of the spot at the place, if there are any.
+fn quotient_at(spots: &[u64], place: usize) -> usize
+    requires { 0 < length spots.now → place < length spots.now }
+    ensures some { 0 < length spots.now → result ≡ slice_index spots.now place / 2 ^ 12 }
+    ensures none { length spots.now ≡ 0 → result ≡ 0 }
 {
-    if prints.is_empty() {
+    if spots.is_empty() {
         0
     } else {
-        (prints[place] / 4096) as usize
+        (spots[place] / 4096) as usize
     }
 }
 
-/// The table of these fingerprints.
-fn table_of(alloc: Global, prints: &[u64], q: u32) -> Result<Table, NoMemory>
+/// The table of these spots.
+fn table_of(alloc: Global, spots: &[u64], q: u32) -> Result<Table, NoMemory>
     requires most { q ≤ 52 }
-    requires sorted { IsStrictlyIncreasing prints.now }
-    requires bits { All (λ print. print < 2 ^ (q + 12)) prints.now }
-    requires count { length prints.now ≤ 2 ^ q }
+    requires sorted { IsStrictlyIncreasing spots.now }
+    requires bits { All (λ spot. spot < 2 ^ (q + 12)) spots.now }
+    requires count { length spots.now ≤ 2 ^ q }
     ensures laid { IfOk result (λ table. IsLaid table.slots) }
     ensures len { IfOk result (λ table. length table.slots ≡ 2 ^ q) }
-    ensures prints { IfOk result (λ table. (print : ℕ)
-        → Contains (prints_in q table) print ↔ Contains prints.now print) }
+    ensures spots { IfOk result (λ table. (spot : ℕ)
+        → Contains (spots_in q table) spot ↔ Contains spots.now spot) }
 {
-    let first = farthest_ahead(prints);
-    let mut table = Table::new(alloc, slot_count(q), quotient_at(prints, first))?;
-    lay(&mut table, prints, first);
+    let first = farthest_ahead(spots);
+    let mut table = Table::new(alloc, slot_count(q), quotient_at(spots, first))?;
+    lay(&mut table, spots, first);
     Ok(table)
 }

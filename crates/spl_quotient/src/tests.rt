@@ -50,6 +50,54 @@ fn the_exponent_grows_with_the_keys(rt: HostRuntime) {
     }
 }
 
+/// `k` and the number in six decimal digits.
+fn decimal_key(rt: &impl Abort, number: u32) -> Key {
+    let mut bytes = [b'k'; 7];
+    let mut left = number;
+    for place in 0..6usize {
+        bytes[6 - place] = b'0' + (left % 10) as u8;
+        left /= 10;
+    }
+    key(rt, &bytes)
+}
+
+/// The key of this number, counted up: in decimal, or in four bytes with the highest first.
+fn counted_key(rt: &impl Abort, number: u32, is_decimal: bool) -> Key {
+    if is_decimal {
+        decimal_key(rt, number)
+    } else {
+        key(rt, &number.to_be_bytes())
+    }
+}
+
+/// How many of these lookups, over the keys in turn, the filter admits.
+fn lookups(filter: &Filter, keys: &[Key], rounds: u32) -> u32 {
+    let mut admitted = 0u32;
+    for _ in 0..rounds {
+        for key in keys {
+            if filter.admits(key) {
+                admitted = admitted.saturating_add(1);
+            }
+        }
+    }
+    admitted
+}
+
+#[test]
+fn keys_that_are_counted_up_are_found_quickly(rt: HostRuntime) {
+    for is_decimal in [true, false] {
+        let mut keys = Vec::new(rt.alloc());
+        for number in 0..1024u32 {
+            keys.push(counted_key(&rt, number, is_decimal))
+                .expect(&rt, "memory");
+        }
+        assert!(rt; keys.len() <= 1024);
+        let filter = Filter::build(rt.alloc(), keys.as_slice()).expect(&rt, "memory");
+        assert_eq!(rt; filter.q(), 11);
+        assert_eq!(rt; lookups(&filter, keys.as_slice(), 100), 102_400);
+    }
+}
+
 /// A key for each number, with bytes that differ all over.
 fn spread_key(rt: &impl Abort, number: u64) -> Key {
     let spread = number.wrapping_mul(0x9e3779b97f4a7c15);

@@ -1,4 +1,4 @@
-ghost use Rattle.std.specs.Prelude.{◌≡◌, ◌≤◌, length, All};
+ghost use Rattle.std.specs.Prelude.{◌≡◌, ◌≤◌, ◌<◌, ◌+◌, [], ◌∷◌, drop, length, All, IfSome, IfNone};
 
 use spl_message::Call;
 use std::marker::Model;
@@ -37,7 +37,7 @@ impl Model for Scripts {
 }
 
 impl Scripts {
-    ghost use Rattle.spl_script.specs.Deed.{IsDeed};
+    ghost use Rattle.spl_script.specs.Deed.{IsDeed, lines_of};
 
     /// The script of these lines, which takes no memory.
     pub fn of(lines: Vec<ScriptLine>) -> Scripts
@@ -57,9 +57,27 @@ impl Scripts {
         self.lines.as_slice()
     }
 
+    /// The caller's next line at or behind a position, with its position.
+    pub fn next_of(&self, caller: u32, from: usize) -> Option<(usize, &ScriptLine)>
+        requires { from ≤ length self.now }
+        ensures some { IfSome result (λ next. lines_of caller (drop from self.now) ≡ next.1.now ∷ lines_of caller (drop (next.0 + 1) self.now)) }
+        ensures within { IfSome result (λ next. next.0 < length self.now) }
+        ensures none { IfNone result (lines_of caller (drop from self.now) ≡ []) }
+    {
+        for at in from..self.lines.len() {
+            let line = &self.lines[at];
+            if line.caller == caller {
+                return Some((at, line));
+            }
+        }
+        None
+    }
+
     /// The lines in a `Vec` again, which takes no memory.
     pub fn into_lines(self) -> Vec<ScriptLine>
-        ensures { result.items ≡ self }
+        ensures lines { result.items ≡ self }
+        ensures small { length self ≤ 500000 }
+        ensures deeds { All (λ line. IsDeed line.deed) self }
     {
         let Scripts { lines } = self;
         lines

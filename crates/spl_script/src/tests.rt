@@ -26,6 +26,24 @@ fn lines_are_calls_in_their_order(rt: HostRuntime) -> Result<(), Fail> {
 }
 
 #[test]
+fn a_caller_has_the_lines_with_its_number(rt: HostRuntime) -> Result<(), Fail> {
+    let text = b"1 get a\n0 get b\n1 get c\n2 get d\n";
+    let script = read_script(rt.alloc(), text, 3)?;
+    let mut places = Vec::new(rt.alloc());
+    for from in 0..script.lines().len() {
+        match script.next_of(1, from) {
+            Some((at, _)) => places.push(Some(at))?,
+            None => places.push(None)?,
+        }
+    }
+    assert_eq!(rt;
+        places.as_slice(),
+        [Some(0), Some(2), Some(2), None].as_slice()
+    );
+    Ok(())
+}
+
+#[test]
 fn the_first_faulty_line_is_named(rt: HostRuntime) {
     for (text, line, reason) in [
         ("\n", 1, LineWhy::Later),

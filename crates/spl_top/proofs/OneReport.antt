@@ -1,6 +1,6 @@
 -- No two lists of rows have the same text.
-use Rattle.std.proofs.Common.{◌≡◌, ◌≢◌, ℕ, ◌+◌, ◌/◌, ◌%◌, ◌^◌, ◌<◌, ◌≤◌, Bool, true, false, cond, eqb, List, [], ◌∷◌, ◌++◌, length, codes, decimal, flat_map, Option, Some, None, IfSome, refl, ap, ◌∙◌, sym, subst, arith, append_assoc, lit<}
-use Rattle.std.proofs.lemmas.Fmt.{decimal_by_steps, decimal_injective, decimal_nonempty}
+use Rattle.std.proofs.Common.{◌≡◌, ℕ, ◌+◌, ◌%◌, ◌^◌, ◌<◌, ◌≤◌, cond, eqb, List, [], ◌∷◌, ◌++◌, codes, decimal, Option, Some, None, IfSome, refl, ap, ◌∙◌, sym, arith, append_assoc, lit<}
+use Rattle.std.proofs.lemmas.Fmt.{decimal_by_steps, decimal_injective}
 use Rattle.std.specs.List.{AllByRecursion}
 use Rattle.spl_message.specs.declared.answer.Answer.{Answer}
 use Rattle.spl_message.specs.declared.answer.Answer.TheVariants.{Done, Missing, Value, Pairs, Stopped}
@@ -10,8 +10,8 @@ use Rattle.spl_message.specs.declared.call.Call.{Call}
 use Rattle.spl_message.specs.declared.call.Call.TheVariants.{Put, Look, Piece}
 use Rattle.spl_message.specs.declared.message.Message.TheVariants.{Insert, Delete, Update}
 use Rattle.spl_top.specs.declared.report.Row.{Row}
-use Rattle.spl_top.specs.ReportText.{text_of, place_text, call_text, cause_text, answer_text, row_text, report_text, AreBytes, HasCallBytes, HasAnswerBytes, IsInRange}
-use Rattle.spl_top.proofs.Lists.{all_push, all_append}
+use Rattle.spl_top.specs.ReportText.{text_of, place_text, call_text, answer_text, row_text, report_text, HasCallBytes, HasAnswerBytes, IsInRange}
+use Rattle.spl_top.proofs.Lists.{all_push}
 use Rattle.spl_top.proofs.Spellings.{Above, cut, text_above, text_of-injective, text_back, bytes_of, above_by_test}
 
 -- ---- numbers and places

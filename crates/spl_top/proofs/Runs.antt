@@ -1,17 +1,15 @@
 -- A run of one caller, line by line: what its rows are so far, and what they are at its end.
-use Rattle.std.proofs.Common.{◌≡◌, ℕ, zero, suc, ◌+◌, ◌<◌, ◌≤◌, Bool, true, false, cond, eqb, ◌⊎◌, inl, inr, List, [], ◌∷◌, ◌++◌, length, get_or, take, drop, map, filter, flat_map, fold, Option, Some, None, is_some, All, refl, ap, ◌∙◌, sym, subst, arith, append_assoc, length-append}
+use Rattle.std.proofs.Common.{◌≡◌, ℕ, zero, suc, ◌+◌, ◌<◌, ◌≤◌, Bool, true, cond, eqb, ◌⊎◌, inl, inr, List, [], ◌∷◌, ◌++◌, length, get_or, take, drop, map, filter, Option, Some, None, is_some, IfSome, All, refl, ap, ◌∙◌, sym, subst, arith, append_assoc, length-append}
 use Rattle.std.specs.List.{AllByRecursion}
+use Rattle.std.specs.Option.{option_or}
 use Rattle.std.proofs.Math.Dec.{eqb-zero-suc}
-use Rattle.std.proofs.lemmas.List.{append-nil, take-append-le, take_at, drop_at, take_all, take_more, take-append-drop, length-map, map-append}
+use Rattle.std.proofs.lemmas.List.{append-nil, take_at, drop_at, take_more, take-append-drop, length-map, map-append}
 use Rattle.std.proofs.lemmas.List.Elements.{All-from_recursion, recursion_from_All, filter-append}
-use Rattle.std.proofs.lemmas.List.Sums.{fold-append}
-use Rattle.std.proofs.lemmas.Grind.{flat_map-append}
 use Rattle.spl_message.specs.declared.answer.Answer.{Answer}
-use Rattle.spl_message.specs.declared.answer.Answer.TheVariants.{Done, Missing, Value}
 use Rattle.spl_message.specs.declared.call.Call.{Call}
 use Rattle.spl_message.specs.declared.call.Call.TheVariants.{Put, Look, Piece}
-use Rattle.spl_message.specs.declared.message.Message.{Message}
-use Rattle.spl_message.specs.Answer.{Answered, IsPieceOf, IsStopped, told_of}
+use Rattle.spl_message.proofs.Histories.{Answered-append, act_all-cond, cell_at-more}
+use Rattle.spl_message.specs.Answer.{Answered, IsStopped, told_of}
 use Rattle.spl_message.specs.Cell.{Cell}
 use Rattle.spl_message.specs.Message.{act, act_all}
 use Rattle.spl_message.specs.Rule.{newest}
@@ -21,9 +19,11 @@ use Rattle.spl_script.specs.declared.script.Deed.{Deed}
 use Rattle.spl_script.specs.declared.script.Deed.TheVariants.{One}
 use Rattle.spl_script.specs.declared.script.ScriptLine.{ScriptLine}
 use Rattle.spl_top.specs.declared.report.Row.{Row}
-use Rattle.spl_top.specs.Legal.{rows_of, lines_of, event_of, history_of, HavePlaces, IsInOrder, IsChain, IsCutShort, Expand, EndEarly, IsAnswered, IsLegal, IsComplete}
+use Rattle.spl_script.specs.Deed.{lines_of}
+use Rattle.spl_top.specs.Legal.{rows_of, event_of, history_of, HavePlaces, IsChain, MayHavePlace, IsCutShort, Expand, EndEarly, IsAnswered, IsLegal}
 use Rattle.spl_top.specs.Run.{Logs, Stops}
-use Rattle.spl_top.specs.Store.{Cells, SameCells, PutsTo, Puts, AnsweredFrom}
+use Rattle.spl_top.specs.Status.{cause_of, cause_in, status_of_cause, HasCause, MayStop, IsRunOf}
+use Rattle.spl_top.specs.Store.{Cells, Puts, AnsweredFrom}
 use Rattle.spl_top.proofs.Lists.{all_push, all_append, all_weaker, filter_all, filter_none}
 
 -- the history of rows that all have places
@@ -40,6 +40,7 @@ pub record Ran (done : List ScriptLine) (rows : List Row) (cells : Cells) : Type
   pub places : HavePlaces 0 rows
   pub callers : AllByRecursion (λ (row : Row). row.caller ≡ 0) rows
   pub expands : Expand done rows
+  pub going : AllByRecursion (λ (row : Row). cause_of row.answer ≡ None) rows
   pub answers : AnsweredOn (events rows) 0 rows
   pub are : (key : List ℕ) → cells key ≡ cell_at newest (events rows) (length rows) key
 
@@ -53,21 +54,10 @@ expand_push : (done : List ScriptLine) (rows : List Row) (line : ScriptLine) (ch
 expand_push [] rows line chain e c = (chain, [], ap (λ r. r ++ chain) e ∙ sym (append-nil chain), c, refl)
 expand_push (l ∷ ls) rows line chain e c = (e.0, e.1 ++ chain, ap (λ r. r ++ chain) e.2 ∙ append_assoc e.0 e.1 chain, e.3, expand_push ls e.1 line chain e.4 c)
 
-cell_kept : (history : History) (event : Event) (place : ℕ) (key : List ℕ) → place ≤ length history → cell_at newest (history ++ event ∷ []) place key ≡ cell_at newest history place key
-cell_kept history event place key within =
-    ap (λ h. act_all newest key None (flat_map (λ (e : Event). messages_to key e.call) h)) (take-append-le place history (event ∷ []) within)
-
-answered_kept : (history : History) (event : Event) (place : ℕ) (call : Call) (answer : Answer) → place ≤ length history → Answered newest history place call answer → Answered newest (history ++ event ∷ []) place call answer
-answered_kept history event place (Put key message) answer within a = a
-answered_kept history event place (Look key) answer within a = a ∙ ap told_of (sym (cell_kept history event place key within))
-answered_kept history event place (Piece span) answer within a =
-    let cells : cell_at newest history place ≡ cell_at newest (history ++ event ∷ []) place = λ i key. sym (cell_kept history event place key within) i in
-    subst (λ c. IsPieceOf c span answer) cells a
-
 answers_kept : (history : History) (event : Event) (place : ℕ) (rows : List Row) → place + length rows ≤ length history → AnsweredOn history place rows → AnsweredOn (history ++ event ∷ []) place rows
 answers_kept history event place [] within a = tt
 answers_kept history event place (row ∷ rows) within a =
-    (answered_kept history event place row.call row.answer (omega arith) a.0, answers_kept history event (place + 1) rows (omega arith) a.1)
+    (Answered-append newest history (event ∷ []) place row.call row.answer (omega arith) a.0, answers_kept history event (place + 1) rows (omega arith) a.1)
 
 answers_push : (history : History) (place : ℕ) (rows : List Row) (row : Row) → AnsweredOn history place rows → Answered newest history (place + length rows) row.call row.answer → AnsweredOn history place (rows ++ row ∷ [])
 answers_push history place [] row a h = let zero : place + 0 ≡ place = omega arith in (subst (λ n. Answered newest history n row.call row.answer) zero h, tt)
@@ -75,29 +65,14 @@ answers_push history place (x ∷ xs) row a h =
     let shift : place + length (x ∷ xs) ≡ place + 1 + length xs = omega arith in
     (a.0, answers_push history (place + 1) xs row a.1 (subst (λ n. Answered newest history n row.call row.answer) shift h))
 
-act_chosen : (key : List ℕ) (cell : Cell) (message : Message) (b : Bool) → act_all newest key cell (cond b (message ∷ []) []) ≡ cond b (act newest key cell message) cell
-act_chosen key cell message true = refl
-act_chosen key cell message false = refl
-
--- the cell behind the last call is what that call's messages make of the cell before it
-cell_more : (history : History) (event : Event) (key : List ℕ) → cell_at newest (history ++ event ∷ []) (length history + 1) key ≡ act_all newest key (cell_at newest history (length history) key) (messages_to key event.call)
-cell_more history event key =
-    let messages : Event → List Message = λ e. messages_to key e.call in
-    let count : length (history ++ event ∷ []) ≡ length history + 1 = length-append history (event ∷ []) in
-    ap (λ h. act_all newest key None (flat_map messages h)) (take_all (length history + 1) (history ++ event ∷ []) (omega arith))
-    ∙ ap (act_all newest key None) (flat_map-append messages history (event ∷ []))
-    ∙ fold-append (act newest key) None (flat_map messages history) (flat_map messages (event ∷ []))
-    ∙ ap (λ h. act_all newest key (act_all newest key None (flat_map messages h)) (flat_map messages (event ∷ []))) (sym (take_all (length history) history (omega arith)))
-    ∙ ap (act_all newest key (cell_at newest history (length history) key)) (append-nil (messages_to key event.call))
-
 cells_more : (history : History) (event : Event) (before after : Cells) (key : List ℕ) →
-    ((k : List ℕ) → before k ≡ cell_at newest history (length history) k) → Puts before after event.call → after key ≡ cell_at newest (history ++ event ∷ []) (length history + 1) key
-cells_more history event before after key are puts = by event.call puts ∙ sym (cell_more history event key)
+    ((k : List ℕ) → before k ≡ cell_at newest history (length history) k) → Puts newest before after event.call → after key ≡ cell_at newest (history ++ event ∷ []) (length history + 1) key
+cells_more history event before after key are puts = by event.call puts ∙ sym (cell_at-more newest history event key)
   where
-    by : (call : Call) → Puts before after call → after key ≡ act_all newest key (cell_at newest history (length history) key) (messages_to key call)
+    by : (call : Call) → Puts newest before after call → after key ≡ act_all newest key (cell_at newest history (length history) key) (messages_to key call)
     by (Put other message) p =
         p key ∙ ap (λ cell. cond (same_key other key) (act newest key cell message) cell) (are key)
-        ∙ sym (act_chosen key (cell_at newest history (length history) key) message (same_key other key))
+        ∙ sym (act_all-cond newest key (cell_at newest history (length history) key) message (same_key other key))
     by (Look other) p = p key ∙ are key
     by (Piece span) p = absurd p
 
@@ -115,12 +90,21 @@ not_stopped cells (Put key message) answer a = λ h. subst IsStopped a h
 not_stopped cells (Look key) answer a = λ h. told_is_not_stopped (cells key) (subst IsStopped a h)
 not_stopped cells (Piece span) answer a = absurd a
 
+told_goes_on : (cell : Cell) → cause_of (told_of cell) ≡ None
+told_goes_on None = refl
+told_goes_on (Some value) = refl
+
+goes_on : (cells : Cells) (call : Call) (answer : Answer) → AnsweredFrom cells call answer → cause_of answer ≡ None
+goes_on cells (Put key message) answer a = ap cause_of a
+goes_on cells (Look key) answer a = ap cause_of a ∙ told_goes_on (cells key)
+goes_on cells (Piece span) answer a = absurd a
+
 -- nothing is done yet
 pub nothing_ran : (cells : Cells) → ((key : List ℕ) → cells key ≡ None) → Ran [] [] cells
-nothing_ran cells empty = record { places = tt; callers = tt; expands = refl; answers = tt; are = empty }
+nothing_ran cells empty = record { places = tt; callers = tt; expands = refl; going = tt; answers = tt; are = empty }
 
 one_ran : (done : List ScriptLine) (rows : List Row) (row : Row) (before after : Cells) (line : ScriptLine) → Ran done rows before → line.caller ≡ 0 →
-    row.place ≡ Some (length rows) → row.caller ≡ line.caller → line.deed ≡ One row.call → AnsweredFrom before row.call row.answer → Puts before after row.call →
+    row.place ≡ Some (length rows) → row.caller ≡ line.caller → line.deed ≡ One row.call → AnsweredFrom before row.call row.answer → Puts newest before after row.call →
     Ran (done ++ line ∷ []) (rows ++ row ∷ []) after
 one_ran done rows row before after line ran first place caller call answer puts =
     let h : History = events rows in
@@ -131,18 +115,19 @@ one_ran done rows row before after line ran first place caller call answer puts 
     let here : Answered newest h (0 + length rows) row.call row.answer =
     subst (λ n. Answered newest h n row.call row.answer) (count ∙ sym from_zero) (answered_now h before row.call row.answer are answer) in
     let kept : Answered newest (h ++ event_of row ∷ []) (0 + length rows) row.call row.answer =
-    answered_kept h (event_of row) (0 + length rows) row.call row.answer (omega arith) here in
+    Answered-append newest h (event_of row ∷ []) (0 + length rows) row.call row.answer (omega arith) here in
     let more : length (rows ++ row ∷ []) ≡ length h + 1 = length-append rows (row ∷ []) ∙ ap (λ n. n + 1) (sym count) in
     record {
       places = places_push 0 rows row ran.places (place ∙ ap Some (sym from_zero));
       callers = all_push _ rows row ran.callers (caller ∙ first);
       expands = expand_push done rows line (row ∷ []) ran.expands (subst (λ d. IsChain d (row ∷ [])) (sym call) (row, refl, refl, not_stopped before row.call row.answer answer));
+      going = all_push _ rows row ran.going (goes_on before row.call row.answer answer);
       answers = subst (λ g. AnsweredOn g 0 (rows ++ row ∷ [])) (sym history) (answers_push (h ++ event_of row ∷ []) 0 rows row (answers_kept h (event_of row) 0 rows (omega arith) ran.answers) kept);
       are = λ key. cells_more h (event_of row) before after key are puts ∙ ap (λ n. cell_at newest (h ++ event_of row ∷ []) n key) (sym more) ∙ ap (λ g. cell_at newest g (length (rows ++ row ∷ [])) key) (sym history);
     }
 
 -- a line is done
-pub line_ran : (done : List ScriptLine) (old new : List Row) (before after : Cells) (line : ScriptLine) → Ran done old before → line.caller ≡ 0 → Logs old new before after line → Ran (done ++ line ∷ []) new after
+pub line_ran : (done : List ScriptLine) (old new : List Row) (before after : Cells) (line : ScriptLine) → Ran done old before → line.caller ≡ 0 → Logs newest old new before after line → Ran (done ++ line ∷ []) new after
 line_ran done old new before after line ran first l =
     subst (λ rows. Ran (done ++ line ∷ []) rows after) (sym l.rows) (one_ran done old l.row before after line ran first l.place l.caller l.call l.answer l.cells)
 
@@ -161,14 +146,20 @@ answered_all history n (row ∷ rows) h a =
 record IsTail (tail : List Row) : Type 0 where
   stopped : AllByRecursion (λ (row : Row). (row.place ≡ None) × IsStopped row.answer) tail
   callers : AllByRecursion (λ (row : Row). row.caller ≡ 0) tail
+  causes : AllByRecursion HasCause tail
   one : length tail ≤ 1
+
+-- where there is only caller 0, its lines and rows are all of them
+caller_zero : (R : List ScriptLine → List Row → Type 0) (script : List ScriptLine) (rows : List Row) → AllByRecursion (λ (line : ScriptLine). line.caller ≡ 0) script →
+    AllByRecursion (λ (row : Row). row.caller ≡ 0) rows → R script rows → R (lines_of 0 script) (rows_of 0 rows)
+caller_zero R script rows lines_zero rows_zero whole =
+    subst (λ ls. R ls (rows_of 0 rows)) (sym (filter_all _ script (all_weaker _ _ script (λ (line : ScriptLine) e. ap (λ n. eqb n 0) e) lines_zero)))
+    (subst (R script) (sym (filter_all _ rows (all_weaker _ _ rows (λ (row : Row) e. ap (λ n. eqb n 0) e) rows_zero))) whole)
 
 -- where there is only caller 0, what holds of the whole holds of each caller
 per_caller : (R : List ScriptLine → List Row → Type 0) (script : List ScriptLine) (rows : List Row) → AllByRecursion (λ (line : ScriptLine). line.caller ≡ 0) script →
     AllByRecursion (λ (row : Row). row.caller ≡ 0) rows → R [] [] → R script rows → (caller : ℕ) → R (lines_of caller script) (rows_of caller rows)
-per_caller R script rows lines_zero rows_zero none whole zero =
-    subst (λ ls. R ls (rows_of 0 rows)) (sym (filter_all _ script (all_weaker _ _ script (λ (line : ScriptLine) e. ap (λ n. eqb n 0) e) lines_zero)))
-    (subst (R script) (sym (filter_all _ rows (all_weaker _ _ rows (λ (row : Row) e. ap (λ n. eqb n 0) e) rows_zero))) whole)
+per_caller R script rows lines_zero rows_zero none whole zero = caller_zero R script rows lines_zero rows_zero whole
 per_caller R script rows lines_zero rows_zero none whole (suc c) =
     subst (λ ls. R ls (rows_of (suc c) rows)) (sym (filter_none _ script (all_weaker _ _ script (λ (line : ScriptLine) e. ap (λ n. eqb n (suc c)) e ∙ eqb-zero-suc c) lines_zero)))
     (subst (R []) (sym (filter_none _ rows (all_weaker _ _ rows (λ (row : Row) e. ap (λ n. eqb n (suc c)) e ∙ eqb-zero-suc c) rows_zero))) none)
@@ -185,31 +176,37 @@ legal script done rows tail cells ran t zeros expands =
     let rest : drop (length rows) (rows ++ tail) ≡ tail = drop_at rows tail _ refl in
     let count : length (map (λ (row : Row). row.caller) (drop (length rows) (rows ++ tail))) ≡ length tail = length-map _ _ ∙ ap length rest in
     record {
-      order = (
-        length rows,
-        record {
-          within = omega (arith, length-append rows tail);
-          places = subst (HavePlaces 0) (sym (take_at rows tail _ refl)) ran.places;
-          stopped = subst (All stopped) (sym rest) (All-from_recursion stopped tail t.stopped);
-          by_caller = λ k within. absurd (omega (arith, t.one));
-        },
-      );
-      each_caller = per_caller (λ ls rs. Expand ls rs ⊎ EndEarly ls rs) script (rows ++ tail) zeros (all_append _ rows tail ran.callers t.callers) (inl refl) expands;
+      history = record {
+        order = (
+          length rows,
+          record {
+            within = omega (arith, length-append rows tail);
+            places = subst (HavePlaces 0) (sym (take_at rows tail _ refl)) ran.places;
+            stopped = subst (All stopped) (sym rest) (All-from_recursion stopped tail t.stopped);
+            by_caller = λ k within. absurd (omega (arith, t.one));
+          },
+        );
+        each_caller = per_caller (λ ls rs. Expand ls rs ⊎ EndEarly ls rs) script (rows ++ tail) zeros (all_append _ rows tail ran.callers t.callers) (inl refl) expands;
+      };
       answers = subst (λ h. All (IsAnswered newest h) (rows ++ tail)) (sym history) (All-from_recursion (IsAnswered newest (events rows)) (rows ++ tail)
           (all_append (IsAnswered newest (events rows)) rows tail (answered_all (events rows) 0 rows ran.places ran.answers) (all_weaker stopped (IsAnswered newest (events rows)) tail (λ (row : Row) s place is not. absurd (not s.1)) t.stopped)));
     }
 
 nothing_behind : IsTail []
-nothing_behind = record { stopped = tt; callers = tt; one = omega arith }
+nothing_behind = record { stopped = tt; callers = tt; causes = tt; one = omega arith }
+
+none_stopped : (rows : List Row) → AllByRecursion (λ (row : Row). cause_of row.answer ≡ None) rows → AllByRecursion HasCause rows
+none_stopped rows going = all_weaker _ HasCause rows (λ (row : Row) none. subst (λ cause. IfSome cause (MayStop row.place)) (sym none) tt) going
 
 -- all lines are done
-pub all_ran : (script : List ScriptLine) (rows : List Row) (cells : Cells) → Ran script rows cells → AllByRecursion (λ (line : ScriptLine). line.caller ≡ 0) script → IsLegal newest rows script
+pub all_ran : (script : List ScriptLine) (rows : List Row) (cells : Cells) → Ran script rows cells → AllByRecursion (λ (line : ScriptLine). line.caller ≡ 0) script → IsRunOf newest script rows 0
 all_ran script rows cells ran zeros =
     let none : rows ++ [] ≡ rows = append-nil rows in
-    subst (λ rs. IsLegal newest rs script) none (legal script script rows [] cells ran nothing_behind zeros (inl (subst (Expand script) (sym none) ran.expands)))
-
-pub all_complete : (script : List ScriptLine) (rows : List Row) (cells : Cells) → Ran script rows cells → AllByRecursion (λ (line : ScriptLine). line.caller ≡ 0) script → IsComplete rows script
-all_complete script rows cells ran zeros = per_caller Expand script rows zeros ran.callers refl ran.expands
+    record {
+      legal = subst (λ rs. IsLegal newest rs script) none (legal script script rows [] cells ran nothing_behind zeros (inl (subst (Expand script) (sym none) ran.expands)));
+      ended = inl (refl, per_caller Expand script rows zeros ran.callers refl ran.expands);
+      causes = All-from_recursion HasCause rows (none_stopped rows ran.going);
+    }
 
 end_early : (done : List ScriptLine) (rows : List Row) (line : ScriptLine) (later : List ScriptLine) (tail : List Row) → Expand done rows → IsCutShort line.deed tail → EndEarly (done ++ line ∷ later) (rows ++ tail)
 end_early [] rows line later tail e cut = inl (subst (IsCutShort line.deed) (sym (ap (λ r. r ++ tail) e)) cut)
@@ -218,18 +215,46 @@ end_early (l ∷ ls) rows line later tail e cut = inr (e.0, e.1 ++ tail, ap (λ 
 cut_before : (deed : Deed) → IsCutShort deed []
 cut_before (One call) = inl refl
 
--- the caller ended early in a line
+cause_behind : (rows tail : List Row) → AllByRecursion (λ (row : Row). cause_of row.answer ≡ None) rows → cause_in (rows ++ tail) ≡ cause_in tail
+cause_behind [] tail going = refl
+cause_behind (row ∷ rows) tail going = ap (λ cause. option_or cause (cause_in (rows ++ tail))) going.0 ∙ cause_behind rows tail going.1
+
+-- the caller ended early in a line, behind whose rows these stand
+ended_early : (script done : List ScriptLine) (line : ScriptLine) (later : List ScriptLine) (rows tail : List Row) (cells : Cells) → Ran done rows cells → IsTail tail → status_of_cause (cause_in tail) ≡ 7 →
+    IsCutShort line.deed tail → AllByRecursion (λ (line : ScriptLine). line.caller ≡ 0) script → script ≡ done ++ line ∷ later → IsRunOf newest script (rows ++ tail) 7
+ended_early script done line later rows tail cells ran t seven cut zeros is =
+    let early : EndEarly script (rows ++ tail) = subst (λ s. EndEarly s (rows ++ tail)) (sym is) (end_early done rows line later tail ran.expands cut) in
+    let callers : AllByRecursion (λ (row : Row). row.caller ≡ 0) (rows ++ tail) = all_append _ rows tail ran.callers t.callers in
+    let whole : 7 ≡ status_of_cause (cause_in (rows ++ tail)) = sym seven ∙ ap status_of_cause (sym (cause_behind rows tail ran.going)) in
+    record {
+      legal = legal script done rows tail cells ran t zeros (inr early);
+      ended = inr (
+        0,
+        record { early = caller_zero EndEarly script (rows ++ tail) zeros callers early; others = λ other below. absurd (omega arith) },
+        caller_zero (λ _ rs. 7 ≡ status_of_cause (cause_in rs)) script (rows ++ tail) zeros callers whole,
+      );
+      causes = All-from_recursion HasCause (rows ++ tail) (all_append HasCause rows tail (none_stopped rows ran.going) t.causes);
+    }
+
+unplaced : (call : Call) (place : Option ℕ) → place ≡ None → MayHavePlace call place
+unplaced (Put key message) place none = none
+unplaced (Look key) place none = tt
+unplaced (Piece span) place none = tt
+
+-- memory ran out in a line
 pub early_ran : (script done : List ScriptLine) (line : ScriptLine) (later : List ScriptLine) (old new : List Row) (cells : Cells) → Ran done old cells →
-    AllByRecursion (λ (line : ScriptLine). line.caller ≡ 0) script → script ≡ done ++ line ∷ later → line.caller ≡ 0 → Stops old new line → IsLegal newest new script
+    AllByRecursion (λ (line : ScriptLine). line.caller ≡ 0) script → script ≡ done ++ line ∷ later → line.caller ≡ 0 → Stops old new line → IsRunOf newest script new 7
 early_ran script done line later old new cells ran zeros is first (inl same) =
-    subst (λ rs. IsLegal newest rs script) (append-nil old ∙ sym same) (legal script done old [] cells ran nothing_behind zeros
-    (inr (subst (λ s. EndEarly s (old ++ [])) (sym is) (end_early done old line later [] ran.expands (cut_before line.deed)))))
+    subst (λ rs. IsRunOf newest script rs 7) (append-nil old ∙ sym same) (ended_early script done line later old [] cells ran nothing_behind refl (cut_before line.deed) zeros is)
 early_ran script done line later old new cells ran zeros is first (inr s) =
     let row : Row = s.0 in
-    let tail : IsTail (row ∷ []) = record { stopped = ((s.2, s.5), tt); callers = (s.3 ∙ first, tt); one = omega arith } in
-    let cut : IsCutShort line.deed (row ∷ []) = subst (λ d. IsCutShort d (row ∷ [])) (sym s.4) (inr (row, refl, refl, s.5)) in
-    subst (λ rs. IsLegal newest rs script) (sym s.1) (legal script done old (row ∷ []) cells ran tail zeros
-    (inr (subst (λ sc. EndEarly sc (old ++ row ∷ [])) (sym is) (end_early done old line later (row ∷ []) ran.expands cut))))
+    let stopped : IsStopped row.answer = subst IsStopped (sym s.5) tt in
+    let cause : HasCause row = subst (λ answer. IfSome (cause_of answer) (MayStop row.place)) (sym s.5) s.2 in
+    let tail : IsTail (row ∷ []) = record { stopped = ((s.2, stopped), tt); callers = (s.3 ∙ first, tt); causes = (cause, tt); one = omega arith } in
+    let seven : status_of_cause (cause_in (row ∷ [])) ≡ 7 = ap (λ answer. status_of_cause (option_or (cause_of answer) None)) s.5 in
+    let cut : IsCutShort line.deed (row ∷ []) =
+    subst (λ d. IsCutShort d (row ∷ [])) (sym s.4) (inr (row, refl, record { is = refl; stopped = stopped; place = unplaced row.call row.place s.2 })) in
+    subst (λ rs. IsRunOf newest script rs 7) (sym s.1) (ended_early script done line later old (row ∷ []) cells ran tail seven cut zeros is)
 
 -- ---- the script's lines
 

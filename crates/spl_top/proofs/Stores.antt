@@ -1,9 +1,8 @@
 -- A map's cells after a change.
-use Rattle.std.proofs.Common.{◌≡◌, ℕ, Bool, true, false, cond, List, [], ◌∷◌, Option, Some, None, refl, ap, ◌∙◌, sym}
+use Rattle.std.proofs.Common.{◌≡◌, ℕ, cond, List, ap, ◌∙◌}
 use Rattle.std.proofs.lemmas.Map.Text.{is_eq-slice_cmp}
 use Rattle.std.specs.Cmp.Lexicographic.{slice_cmp}
 use Rattle.std.specs.Ordering.{nat_cmp, is_eq}
-use Rattle.spl_message.specs.declared.message.Message.{Message}
 use Rattle.spl_message.specs.Cell.{Cell}
 use Rattle.spl_message.specs.Key.{same_key}
 

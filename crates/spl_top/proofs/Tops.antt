@@ -1,35 +1,42 @@
--- From what was read to what the source told.
-use Rattle.std.proofs.Common.{◌≡◌, ◌≢◌, ℕ, ◌+◌, ◌<◌, ◌≤◌, ◌⊎◌, inl, inr, Bool, true, false, List, [], ◌++◌, length, take, Option, Some, None, IfSome, Result, Ok, Err, String, ◌==◌, refl, ap, ◌∙◌, sym, subst, arith, length-append}
+-- From what was read to what the source told, and from what was told to what each status says.
+use Rattle.std.proofs.Common.{◌≡◌, ◌≢◌, ℕ, ◌+◌, ◌<◌, ◌≤◌, ◌⊎◌, inl, inr, List, [], ◌∷◌, ◌++◌, length, take, filter, cond, true, false, Bool, Option, Some, None, IfSome, Ok, Err, String, ◌==◌, codes, refl, ap, ◌∙◌, sym, subst, arith, length-append}
 use Rattle.std.proofs.lemmas.Bool.{cases_lt}
-use Rattle.std.proofs.lemmas.List.{append-nil, take_at, take_all, take-append-le}
-use Rattle.std.specs.Option.{option_map}
-use Rattle.std.specs.List.{slice_split}
+use Rattle.std.proofs.lemmas.List.{append-nil, take-append-le}
+use Rattle.std.proofs.lemmas.List.Elements.{recursion_from_All}
+use Rattle.std.specs.Option.{option_map, option_or}
+use Rattle.std.specs.List.{slice_split, AllByRecursion}
 use Rattle.spl_port.specs.Bytes.{Gives, Takes}
-use Rattle.spl_port.specs.Counts.{Rose}
-use Rattle.spl_message.specs.Rule.{newest}
+use Rattle.spl_port.specs.Counts.{raised_count}
+use Rattle.spl_port.specs.Streams.{Input, Output}
+use Rattle.spl_message.specs.declared.answer.Cause.{Cause}
+use Rattle.spl_message.specs.declared.answer.Cause.TheVariants.{Fault, Damaged, Full, Nodes, Spent, Memory}
+use Rattle.spl_message.specs.Rule.{Rule, newest}
 use Rattle.spl_script.specs.declared.script.ScriptLine.{ScriptLine}
 use Rattle.spl_script.specs.Script.{Faulty, script_text, lines_from}
 use Rattle.spl_top.specs.declared.report.Row.{Row}
-use Rattle.spl_top.specs.Outcome.{IsRun, Outcome, bad_words, bad_source, bad_line, rows_of_run, EndsByInput, EndsBy, EndsWithInput, IsRead, Ends, status_of, text_of, fault_text}
-use Rattle.spl_top.specs.Legal.{IsLegal, IsComplete}
-use Rattle.spl_top.specs.Top.{Says, Tells, Reports, Refuses}
+use Rattle.spl_top.specs.Legal.{rows_of}
+use Rattle.spl_top.specs.Status.{cause_of, cause_in, status_of_cause, MayStop, HasCause, HasStatus, IsRunOf}
+use Rattle.spl_top.specs.Outcome.{IsRun, Outcome, bad_words, bad_source, bad_line, no_memory, ran, EndsByInput, EndsBy, EndsWithInput, IsRead, status_of, text_of, fault_text}
+use Rattle.spl_top.specs.Top.{Tells, TellsAll, Ends, Reports, RefusesLine, IsDone}
+
+-- ---- what was read, and what the source told
 
 -- the input is looked at no further than it was read
-script_told : (read rest : List ℕ) → length read ≤ 16777217 → (length read < 16777217 → rest ≡ []) → script_text 1 (read ++ rest) ≡ script_text 1 read
-script_told read rest bound none = ap (λ bytes. lines_from 1 1 0 (slice_split (λ byte. byte == 10) bytes)) (same (cases_lt (length read) 16777217))
+script_told : (callers : ℕ) (read rest : List ℕ) → length read ≤ 16777217 → (length read < 16777217 → rest ≡ []) → script_text callers (read ++ rest) ≡ script_text callers read
+script_told callers read rest bound none = ap (λ bytes. lines_from callers 1 0 (slice_split (λ byte. byte == 10) bytes)) (same (cases_lt (length read) 16777217))
   where
     same : (length read < 16777217) ⊎ (16777217 ≤ length read) → take 16777217 (read ++ rest) ≡ take 16777217 read
     same (inl few) = ap (λ r. take 16777217 (read ++ r)) (none few) ∙ ap (take 16777217) (append-nil read)
     same (inr all) = take-append-le 16777217 read rest all
 
-module _ {A : Type 0} (words : List (String A)) (left rest : Option (List ℕ)) (before now : ℕ) (read : List ℕ) where
-  line_told : (faulty : Faulty) → Gives left rest read → length read ≤ 16777217 → (length read < 16777217 → IfSome rest (λ r. r ≡ [])) → script_text 1 read ≡ Err faulty →
-      IfSome left (λ input. script_text 1 input ≡ Err faulty)
-  line_told faulty gives bound none is = subst (λ l. IfSome l (λ input. script_text 1 input ≡ Err faulty)) (sym gives) (by rest none)
+module _ (rule : Rule) (callers : ℕ) (left rest : Option (List ℕ)) (read : List ℕ) where
+  line_told : (faulty : Faulty) → Gives left rest read → length read ≤ 16777217 → (length read < 16777217 → IfSome rest (λ r. r ≡ [])) → script_text callers read ≡ Err faulty →
+      IfSome left (λ input. script_text callers input ≡ Err faulty)
+  line_told faulty gives bound none is = subst (λ l. IfSome l (λ input. script_text callers input ≡ Err faulty)) (sym gives) (by rest none)
     where
-      by : (o : Option (List ℕ)) → (length read < 16777217 → IfSome o (λ r. r ≡ [])) → IfSome (option_map (λ r. read ++ r) o) (λ input. script_text 1 input ≡ Err faulty)
+      by : (o : Option (List ℕ)) → (length read < 16777217 → IfSome o (λ r. r ≡ [])) → IfSome (option_map (λ r. read ++ r) o) (λ input. script_text callers input ≡ Err faulty)
       by None n = tt
-      by (Some r) n = script_told read r bound n ∙ is
+      by (Some r) n = script_told callers read r bound n ∙ is
 
   all_read : Gives left rest read → length read ≤ 16777217 → (length read < 16777217 → IfSome rest (λ r. r ≡ [])) → IsRead left rest
   all_read gives bound none = subst (λ l. IsRead l rest) (sym gives) (by rest none)
@@ -42,77 +49,263 @@ module _ {A : Type 0} (words : List (String A)) (left rest : Option (List ℕ)) 
           at (inl few) = inl (n few)
           at (inr all) = inr (omega (arith, length-append read r))
 
-  rows_told : (rows : List Row) (early : Bool) → Gives left rest read → IfSome rest (λ r. r ≡ []) → EndsByInput read (rows_of_run rows early) → IfSome left (λ input. EndsByInput input (rows_of_run rows early))
-  rows_told rows early gives none is = subst (λ l. IfSome l (λ input. EndsByInput input (rows_of_run rows early))) (sym gives) (by rest none)
+  script_of : (script : List ScriptLine) → Gives left rest read → IfSome rest (λ r. r ≡ []) → (length read ≤ 16777216) × (script_text callers read ≡ Ok script) →
+      IfSome left (λ input. (length input ≤ 16777216) × (script_text callers input ≡ Ok script))
+  script_of script gives none is = subst (λ l. IfSome l (λ input. (length input ≤ 16777216) × (script_text callers input ≡ Ok script))) (sym gives) (by rest none)
     where
-      by : (o : Option (List ℕ)) → IfSome o (λ r. r ≡ []) → IfSome (option_map (λ r. read ++ r) o) (λ input. EndsByInput input (rows_of_run rows early))
+      by : (o : Option (List ℕ)) → IfSome o (λ r. r ≡ []) → IfSome (option_map (λ r. read ++ r) o) (λ input. (length input ≤ 16777216) × (script_text callers input ≡ Ok script))
       by None n = tt
-      by (Some r) n = subst (λ input. EndsByInput input (rows_of_run rows early)) (sym (append-nil read) ∙ ap (λ t. read ++ t) (sym n)) is
+      by (Some r) n = subst (λ input. (length input ≤ 16777216) × (script_text callers input ≡ Ok script)) (sym (append-nil read) ∙ ap (λ t. read ++ t) (sym n)) is
 
-  pub ends_told : (status : ℕ) (text : List ℕ) → IsRun words → Gives left rest read → length read ≤ 16777217 → (length read < 16777217 → IfSome rest (λ r. r ≡ [])) → EndsWithInput status text read →
-      Ends words left rest before now status text
-  ends_told status text run gives bound none e = (e.0, by e.0 e.1, e.2, e.3)
+-- an outcome of what was read is one of the source, and so is its telling
+pub told_from : (rule : Rule) (callers : ℕ) {A : Type 0} (words : List (String A)) (i i' : Input) (o o' : Output) (result status : ℕ) (text read : List ℕ) → IsRun words → i'.faults ≡ i.faults →
+    Gives i.left i'.left read → length read ≤ 16777217 → (length read < 16777217 → IfSome i'.left (λ r. r ≡ [])) → EndsWithInput rule callers status text read → Tells o o' status text result →
+    Ends rule callers words i i' o o' result
+told_from rule callers words i i' o o' result status text read run same gives bound none e tells =
+    (e.0, by e.0 e.1, subst (λ s. Tells o o' s (text_of e.0) result) e.2 (subst (λ t. Tells o o' status t result) e.3 tells))
+  where
+    by : (outcome : Outcome) → EndsByInput rule callers read outcome → EndsBy rule callers words i i' outcome
+    by bad_words h = absurd h
+    by bad_source h = absurd h
+    by no_memory h = absurd h
+    by (bad_line faulty) h = (run, same, line_told rule callers i.left i'.left read faulty gives bound none h, all_read rule callers i.left i'.left read gives bound none)
+    by (ran script rows status) h =
+        let end : IfSome i'.left (λ r. r ≡ []) = none (omega (arith, h.0)) in (run, same, script_of rule callers i.left i'.left read script gives end (h.0, h.1), end, h.2)
+
+-- ---- the status of a run
+
+all_of_some : (P : Row → Type 0) (p : Row → Bool) (rows : List Row) → AllByRecursion P rows → AllByRecursion P (filter p rows)
+all_of_some P p [] h = tt
+all_of_some P p (row ∷ rows) h = by (p row) (all_of_some P p rows h.1)
+  where
+    by : (b : Bool) → AllByRecursion P (filter p rows) → AllByRecursion P (cond b (row ∷ filter p rows) (filter p rows))
+    by true rest = (h.0, rest)
+    by false rest = rest
+
+-- every cause that the rows show may come
+cause_may : (rows : List Row) → AllByRecursion HasCause rows → IfSome (cause_in rows) (λ cause. (place : Option ℕ) × MayStop place cause)
+cause_may [] h = tt
+cause_may (row ∷ rows) h = by (cause_of row.answer) h.0 (cause_may rows h.1)
+  where
+    by : (o : Option Cause) → IfSome o (MayStop row.place) → IfSome (cause_in rows) (λ cause. (place : Option ℕ) × MayStop place cause) →
+        IfSome (option_or o (cause_in rows)) (λ cause. (place : Option ℕ) × MayStop place cause)
+    by None may rest = rest
+    by (Some cause) may rest = (row.place, may)
+
+seven : (cause : Option Cause) → IfSome cause (λ c. (place : Option ℕ) × MayStop place c) → status_of_cause cause ≡ 7
+seven None may = refl
+seven (Some Memory) may = refl
+seven (Some Fault) may = absurd may.1
+seven (Some Damaged) may = absurd may.1
+seven (Some Full) may = absurd may.1
+seven (Some Nodes) may = absurd may.1
+seven (Some Spent) may = absurd may.1
+
+run_status : (rule : Rule) (script : List ScriptLine) (rows : List Row) (status : ℕ) → IsRunOf rule script rows status → (status ≡ 0) ⊎ (status ≡ 7)
+run_status rule script rows status run = by run.ended
+  where
+    by : HasStatus rows script status → (status ≡ 0) ⊎ (status ≡ 7)
+    by (inl whole) = inl whole.0
+    by (inr early) = inr (early.2 ∙ seven _ (cause_may (rows_of early.0 rows) (all_of_some HasCause _ rows (recursion_from_All HasCause rows run.causes))))
+
+-- ---- what each status says
+
+module _ {A : Type 0} (words : List (String A)) (i i' : Input) (o o' : Output) (result : ℕ) where
+  pub known_from : Ends newest 1 words i i' o o' result → (result ≤ 4) ⊎ (result ≡ 7)
+  known_from e = by e.0 e.1 e.2
     where
-      by : (outcome : Outcome) → EndsByInput read outcome → EndsBy words left rest before now outcome
-      by bad_words h = absurd h
-      by bad_source h = absurd h
-      by (bad_line faulty) h = (run, line_told faulty gives bound none h, all_read gives bound none)
-      by (rows_of_run rows early) h = let end : IfSome rest (λ r. r ≡ []) = none (omega arith) in (run, rows_told rows early gives end h, end)
+      whole : (outcome : Outcome) → EndsBy newest 1 words i i' outcome → result ≡ status_of outcome → (result ≤ 4) ⊎ (result ≡ 7)
+      whole bad_words cause is = inl (omega (arith, is))
+      whole bad_source cause is = inl (omega (arith, is))
+      whole (bad_line faulty) cause is = inl (omega (arith, is))
+      whole no_memory cause is = inr is
+      whole (ran script rows status) cause is = at (run_status newest script rows status cause.4)
+        where
+          at : (status ≡ 0) ⊎ (status ≡ 7) → (result ≤ 4) ⊎ (result ≡ 7)
+          at (inl zero) = inl (omega (arith, is))
+          at (inr seven) = inr (is ∙ seven)
 
-module _ {A : Type 0} (words : List (String A)) (left rest held held' : Option (List ℕ)) (before now outs outs' result : ℕ) where
+      by : (outcome : Outcome) → EndsBy newest 1 words i i' outcome → Tells o o' (status_of outcome) (text_of outcome) result → (result ≤ 4) ⊎ (result ≡ 7)
+      by outcome cause (inl t) = whole outcome cause t.0
+      by outcome cause (inr t) = inl (omega (arith, t.0))
+
+  pub words_from : Ends newest 1 words i i' o o' result → ¬ (IsRun words) → Tells o o' 1 (codes "words\n") result × (i' ≡ i)
+  words_from e not = by e.0 e.1 e.2
+    where
+      by : (outcome : Outcome) → EndsBy newest 1 words i i' outcome → Tells o o' (status_of outcome) (text_of outcome) result → Tells o o' 1 (codes "words\n") result × (i' ≡ i)
+      by bad_words cause tells = (tells, cause.1)
+      by bad_source cause tells = absurd (not cause.0)
+      by (bad_line faulty) cause tells = absurd (not cause.0)
+      by no_memory cause tells = absurd (not cause.0)
+      by (ran script rows status) cause tells = absurd (not cause.0)
+
+  pub source_from : Ends newest 1 words i i' o o' result → i'.faults ≢ i.faults → Tells o o' 3 (codes "source\n") result
+  source_from e rose = by e.0 e.1 e.2
+    where
+      by : (outcome : Outcome) → EndsBy newest 1 words i i' outcome → Tells o o' (status_of outcome) (text_of outcome) result → Tells o o' 3 (codes "source\n") result
+      by bad_words cause tells = absurd (rose (ap (λ (input : Input). input.faults) cause.1))
+      by bad_source cause tells = tells
+      by (bad_line faulty) cause tells = absurd (rose cause.1)
+      by no_memory cause tells = absurd (rose cause.1)
+      by (ran script rows status) cause tells = absurd (rose cause.1)
+
+  pub sink_from : Ends newest 1 words i i' o o' result → result ≢ 4 → o'.faults ≡ o.faults
+  sink_from e whole = by e.2
+    where
+      by : Tells o o' (status_of e.0) (text_of e.0) result → o'.faults ≡ o.faults
+      by (inl t) = t.2
+      by (inr t) = absurd (whole t.0)
+
+  -- a status other than 4 is that of the outcome, which was told whole
+  told_whole : (outcome : Outcome) → Tells o o' (status_of outcome) (text_of outcome) result → result ≢ 4 → TellsAll o o' (status_of outcome) (text_of outcome) result
+  told_whole outcome (inl t) whole = t
+  told_whole outcome (inr t) whole = absurd (whole t.0)
+
+  never_four : (outcome : Outcome) → EndsBy newest 1 words i i' outcome → result ≡ status_of outcome → result ≢ 4
+  never_four bad_words cause is = λ four. omega (arith, is)
+  never_four bad_source cause is = λ four. omega (arith, is)
+  never_four (bad_line faulty) cause is = λ four. omega (arith, is)
+  never_four no_memory cause is = λ four. omega (arith, is)
+  never_four (ran script rows status) cause is = at (run_status newest script rows status cause.4)
+    where
+      at : (status ≡ 0) ⊎ (status ≡ 7) → result ≢ 4
+      at (inl zero) = λ four. omega (arith, is)
+      at (inr seven) = λ four. omega (arith, is)
+
+  pub fault_from : Ends newest 1 words i i' o o' result → result ≡ 4 → o'.faults ≡ raised_count o.faults
+  fault_from e four = by e.2
+    where
+      by : Tells o o' (status_of e.0) (text_of e.0) result → o'.faults ≡ raised_count o.faults
+      by (inl t) = absurd (never_four e.0 e.1 t.0 four)
+      by (inr t) = t.2
+
+  pub words_only_from : Ends newest 1 words i i' o o' result → result ≡ 1 → ¬ (IsRun words)
+  words_only_from e one = by e.0 e.1 (told_whole e.0 e.2 (λ four. omega arith))
+    where
+      by : (outcome : Outcome) → EndsBy newest 1 words i i' outcome → TellsAll o o' (status_of outcome) (text_of outcome) result → ¬ (IsRun words)
+      by bad_words cause t = cause.0
+      by bad_source cause t = absurd (omega (arith, t.0))
+      by (bad_line faulty) cause t = absurd (omega (arith, t.0))
+      by no_memory cause t = absurd (omega (arith, t.0))
+      by (ran script rows status) cause t = at (run_status newest script rows status cause.4)
+        where
+          at : (status ≡ 0) ⊎ (status ≡ 7) → ¬ (IsRun words)
+          at (inl zero) = absurd (omega (arith, t.0))
+          at (inr seven) = absurd (omega (arith, t.0))
+
+  pub source_only_from : Ends newest 1 words i i' o o' result → result ≡ 3 → IsRun words × (i'.faults ≡ raised_count i.faults) × Takes o.held o'.held (codes "source\n")
+  source_only_from e three = by e.0 e.1 (told_whole e.0 e.2 (λ four. omega arith))
+    where
+      by : (outcome : Outcome) → EndsBy newest 1 words i i' outcome → TellsAll o o' (status_of outcome) (text_of outcome) result → IsRun words × (i'.faults ≡ raised_count i.faults) × Takes o.held o'.held (codes "source\n")
+      by bad_words cause t = absurd (omega (arith, t.0))
+      by bad_source cause t = (cause.0, cause.1, t.1)
+      by (bad_line faulty) cause t = absurd (omega (arith, t.0))
+      by no_memory cause t = absurd (omega (arith, t.0))
+      by (ran script rows status) cause t = at (run_status newest script rows status cause.4)
+        where
+          at : (status ≡ 0) ⊎ (status ≡ 7) → IsRun words × (i'.faults ≡ raised_count i.faults) × Takes o.held o'.held (codes "source\n")
+          at (inl zero) = absurd (omega (arith, t.0))
+          at (inr seven) = absurd (omega (arith, t.0))
+
+  -- what holds of the bytes that the source tells follows from what holds of them
+  of_bytes : (P Q : List ℕ → Type 0) (l : Option (List ℕ)) → ((bytes : List ℕ) → P bytes → Q bytes) → IfSome l P → IfSome l Q
+  of_bytes P Q None f h = tt
+  of_bytes P Q (Some bytes) f h = f bytes h
+
+  pub script_only_from : Ends newest 1 words i i' o o' result → result ≡ 2 →
+      IsRun words × IfSome i.left (λ bytes. (faulty : Faulty) × (script_text 1 bytes ≡ Err faulty) × Takes o.held o'.held (fault_text faulty)) × IsRead i.left i'.left
+  script_only_from e two = by e.0 e.1 (told_whole e.0 e.2 (λ four. omega arith))
+    where
+      by : (outcome : Outcome) → EndsBy newest 1 words i i' outcome → TellsAll o o' (status_of outcome) (text_of outcome) result → IsRun words × IfSome i.left (λ bytes. (faulty : Faulty) × (script_text 1 bytes ≡ Err faulty) × Takes o.held o'.held (fault_text faulty)) × IsRead i.left i'.left
+      by bad_words cause t = absurd (omega (arith, t.0))
+      by bad_source cause t = absurd (omega (arith, t.0))
+      by (bad_line faulty) cause t =
+          (cause.0, of_bytes (λ bytes. script_text 1 bytes ≡ Err faulty) (λ bytes. (faulty : Faulty) × (script_text 1 bytes ≡ Err faulty) × Takes o.held o'.held (fault_text faulty)) i.left (λ bytes is. (faulty, is, t.1)) cause.2, cause.3)
+      by no_memory cause t = absurd (omega (arith, t.0))
+      by (ran script rows status) cause t = at (run_status newest script rows status cause.4)
+        where
+          at : (status ≡ 0) ⊎ (status ≡ 7) → IsRun words × IfSome i.left (λ bytes. (faulty : Faulty) × (script_text 1 bytes ≡ Err faulty) × Takes o.held o'.held (fault_text faulty)) × IsRead i.left i'.left
+          at (inl zero) = absurd (omega (arith, t.0))
+          at (inr seven) = absurd (omega (arith, t.0))
+
+  pub done_from : Ends newest 1 words i i' o o' result → result ≡ 0 → IsRun words × IfSome i.left (IsDone newest 1 o.held o'.held) × IfSome i'.left (λ rest. rest ≡ [])
+  done_from e zero = by e.0 e.1 (told_whole e.0 e.2 (λ four. omega arith))
+    where
+      by : (outcome : Outcome) → EndsBy newest 1 words i i' outcome → TellsAll o o' (status_of outcome) (text_of outcome) result →
+          IsRun words × IfSome i.left (IsDone newest 1 o.held o'.held) × IfSome i'.left (λ rest. rest ≡ [])
+      by bad_words cause t = absurd (omega (arith, t.0))
+      by bad_source cause t = absurd (omega (arith, t.0))
+      by (bad_line faulty) cause t = absurd (omega (arith, t.0))
+      by no_memory cause t = absurd (omega (arith, t.0))
+      by (ran script rows status) cause t =
+          let run : IsRunOf newest script rows 0 = subst (IsRunOf newest script rows) (sym t.0 ∙ zero) cause.4 in
+          (cause.0, of_bytes (λ bytes. (length bytes ≤ 16777216) × (script_text 1 bytes ≡ Ok script)) (IsDone newest 1 o.held o'.held) i.left (λ bytes is. (script, is.1, rows, run, t.1)) cause.2, cause.3)
+
+  pub memory_from : Ends newest 1 words i i' o o' result → result ≡ 7 → IsRun words × ((script : List ScriptLine) × Reports newest script o.held o'.held 7)
+  memory_from e is = by e.0 e.1 (told_whole e.0 e.2 (λ four. omega arith))
+    where
+      by : (outcome : Outcome) → EndsBy newest 1 words i i' outcome → TellsAll o o' (status_of outcome) (text_of outcome) result → IsRun words × ((script : List ScriptLine) × Reports newest script o.held o'.held 7)
+      by bad_words cause t = absurd (omega (arith, t.0))
+      by bad_source cause t = absurd (omega (arith, t.0))
+      by (bad_line faulty) cause t = absurd (omega (arith, t.0))
+      by no_memory cause t = (cause.0, ([], inr (refl, t.1)))
+      by (ran script rows status) cause t = (cause.0, (script, inl (rows, subst (IsRunOf newest script rows) (sym t.0 ∙ is) cause.4, t.1)))
+
   -- a script that is told and valid is reported
-  reported : (bytes : List ℕ) (script : List ScriptLine) (outcome : Outcome) → left ≡ Some bytes → IsRun words → EndsBy words left rest before now outcome → script_text 1 bytes ≡ Ok script →
-      result ≢ 3 → result ≡ status_of outcome → Takes held held' (text_of outcome) → Reports held held' result script
-  reported bytes script bad_words told run cause valid kept is takes = absurd (cause run)
-  reported bytes script bad_source told run cause valid kept is takes = absurd (kept is)
-  reported bytes script (bad_line faulty) told run cause valid kept is takes =
-      let line : script_text 1 bytes ≡ Err faulty = subst (λ l. IfSome l (λ input. script_text 1 input ≡ Err faulty)) told cause.1 in absurd (cc)
-  reported bytes script (rows_of_run rows early) told run cause valid kept is takes =
-      let by : EndsByInput bytes (rows_of_run rows early) = subst (λ l. IfSome l (λ input. EndsByInput input (rows_of_run rows early))) told cause.1 in
-      let same : by.1 ≡ script = cc in
-      let legal : IsLegal newest rows script = subst (IsLegal newest rows) same by.3 in
-      inl (rows, legal, takes, ended early by.4 same is)
+  pub headline_from : Ends newest 1 words i i' o o' result → IsRun words →
+      IfSome i.left (λ bytes. (script : List ScriptLine) → script_text 1 bytes ≡ Ok script → result ≢ 3 → result ≢ 4 → Reports newest script o.held o'.held result)
+  headline_from e run = by i.left refl
     where
-      ended : (b : Bool) {other : List ScriptLine} → (b ≡ false → IsComplete rows other) → other ≡ script → result ≡ status_of (rows_of_run rows b) → ((result ≡ 0) × IsComplete rows script) ⊎ (result ≡ 7)
-      ended false complete e s = inl (s, subst (IsComplete rows) e (complete refl))
-      ended true complete e s = inr s
+      at : (bytes : List ℕ) (script : List ScriptLine) (outcome : Outcome) → i.left ≡ Some bytes → EndsBy newest 1 words i i' outcome → script_text 1 bytes ≡ Ok script →
+          result ≢ 3 → TellsAll o o' (status_of outcome) (text_of outcome) result → Reports newest script o.held o'.held result
+      at bytes script bad_words told cause valid kept t = absurd (cause.0 run)
+      at bytes script bad_source told cause valid kept t = absurd (kept t.0)
+      at bytes script (bad_line faulty) told cause valid kept t =
+          let line : script_text 1 bytes ≡ Err faulty = subst (λ l. IfSome l (λ input. script_text 1 input ≡ Err faulty)) told cause.2 in absurd (cc)
+      at bytes script no_memory told cause valid kept t = inr (t.0, t.1)
+      at bytes script (ran other rows status) told cause valid kept t =
+          let is : (length bytes ≤ 16777216) × (script_text 1 bytes ≡ Ok other) = subst (λ l. IfSome l (λ input. (length input ≤ 16777216) × (script_text 1 input ≡ Ok other))) told cause.2 in
+          let same : other ≡ script = cc (is.1) in
+          inl (rows, subst (λ s. IsRunOf newest script rows s) (sym t.0) (subst (λ s. IsRunOf newest s rows status) same cause.4), t.1)
 
-  pub headline_from : (status : ℕ) (text : List ℕ) → Says words left rest before now status text → Tells held held' outs outs' status text result → IsRun words →
-      IfSome left (λ bytes. (script : List ScriptLine) → script_text 1 bytes ≡ Ok script → result ≢ 3 → result ≢ 4 → Reports held held' result script)
-  headline_from status text says tells run = by left refl
-    where
-      told : (bytes : List ℕ) (script : List ScriptLine) → left ≡ Some bytes → script_text 1 bytes ≡ Ok script → result ≢ 3 → result ≢ 4 →
-          Says words left rest before now status text → Tells held held' outs outs' status text result → Reports held held' result script
-      told bytes script is valid kept whole s (inr t) = absurd (whole t.0)
-      told bytes script is valid kept whole (inl e) (inl t) = reported bytes script e.0 is run e.1 valid kept (t.0 ∙ e.2) (subst (Takes held held') e.3 t.1)
-      told bytes script is valid kept whole (inr m) (inl t) = inr (t.0 ∙ m.0, subst (Takes held held') m.1 t.1)
-
-      by : (l : Option (List ℕ)) → left ≡ l → IfSome l (λ bytes. (script : List ScriptLine) → script_text 1 bytes ≡ Ok script → result ≢ 3 → result ≢ 4 → Reports held held' result script)
+      by : (l : Option (List ℕ)) → i.left ≡ l → IfSome l (λ bytes. (script : List ScriptLine) → script_text 1 bytes ≡ Ok script → result ≢ 3 → result ≢ 4 → Reports newest script o.held o'.held result)
       by None is = tt
-      by (Some bytes) is = λ script valid kept whole. told bytes script is valid kept whole says tells
+      by (Some bytes) is = λ script valid kept whole. at bytes script e.0 is e.1 valid kept (told_whole e.0 e.2 whole)
 
   -- a faulty line that is told is refused
-  refused : (bytes : List ℕ) (faulty : Faulty) (outcome : Outcome) → left ≡ Some bytes → IsRun words → EndsBy words left rest before now outcome → script_text 1 bytes ≡ Err faulty →
-      result ≢ 3 → result ≡ status_of outcome → Takes held held' (text_of outcome) → Refuses held held' 2 (fault_text faulty) result
-  refused bytes faulty bad_words told run cause wrong kept is takes = absurd (cause run)
-  refused bytes faulty bad_source told run cause wrong kept is takes = absurd (kept is)
-  refused bytes faulty (bad_line other) told run cause wrong kept is takes =
-      let line : script_text 1 bytes ≡ Err other = subst (λ l. IfSome l (λ input. script_text 1 input ≡ Err other)) told cause.1 in
-      let same : other ≡ faulty = cc in
-      inl (is, subst (λ f. Takes held held' (fault_text f)) same takes)
-  refused bytes faulty (rows_of_run rows early) told run cause wrong kept is takes =
-      let by : EndsByInput bytes (rows_of_run rows early) = subst (λ l. IfSome l (λ input. EndsByInput input (rows_of_run rows early))) told cause.1 in absurd (cc)
-
-  pub refusal_from : (status : ℕ) (text : List ℕ) → Says words left rest before now status text → Tells held held' outs outs' status text result → IsRun words →
-      IfSome left (λ bytes. (faulty : Faulty) → script_text 1 bytes ≡ Err faulty → result ≢ 3 → Refuses held held' 2 (fault_text faulty) result)
-  refusal_from status text says tells run = by left refl
+  pub refusal_from : Ends newest 1 words i i' o o' result → IsRun words →
+      IfSome i.left (λ bytes. (faulty : Faulty) → script_text 1 bytes ≡ Err faulty → result ≢ 3 → result ≢ 4 → RefusesLine o o' faulty result)
+  refusal_from e run = by i.left refl
     where
-      told : (bytes : List ℕ) (faulty : Faulty) → left ≡ Some bytes → script_text 1 bytes ≡ Err faulty → result ≢ 3 →
-          Says words left rest before now status text → Tells held held' outs outs' status text result → Refuses held held' 2 (fault_text faulty) result
-      told bytes faulty is wrong kept s (inr t) = inr (inl t.0)
-      told bytes faulty is wrong kept (inl e) (inl t) = refused bytes faulty e.0 is run e.1 wrong kept (t.0 ∙ e.2) (subst (Takes held held') e.3 t.1)
-      told bytes faulty is wrong kept (inr m) (inl t) = inr (inr (t.0 ∙ m.0))
+      at : (bytes : List ℕ) (faulty : Faulty) (outcome : Outcome) → i.left ≡ Some bytes → EndsBy newest 1 words i i' outcome → script_text 1 bytes ≡ Err faulty →
+          result ≢ 3 → TellsAll o o' (status_of outcome) (text_of outcome) result → RefusesLine o o' faulty result
+      at bytes faulty bad_words told cause wrong kept t = absurd (cause.0 run)
+      at bytes faulty bad_source told cause wrong kept t = absurd (kept t.0)
+      at bytes faulty (bad_line other) told cause wrong kept t =
+          let line : script_text 1 bytes ≡ Err other = subst (λ l. IfSome l (λ input. script_text 1 input ≡ Err other)) told cause.2 in
+          let same : other ≡ faulty = cc in
+          inl (subst (λ f. TellsAll o o' 2 (fault_text f) result) same t)
+      at bytes faulty no_memory told cause wrong kept t = inr t
+      at bytes faulty (ran other rows status) told cause wrong kept t =
+          let is : (length bytes ≤ 16777216) × (script_text 1 bytes ≡ Ok other) = subst (λ l. IfSome l (λ input. (length input ≤ 16777216) × (script_text 1 input ≡ Ok other))) told cause.2 in absurd (cc (is.1))
 
-      by : (l : Option (List ℕ)) → left ≡ l → IfSome l (λ bytes. (faulty : Faulty) → script_text 1 bytes ≡ Err faulty → result ≢ 3 → Refuses held held' 2 (fault_text faulty) result)
+      by : (l : Option (List ℕ)) → i.left ≡ l → IfSome l (λ bytes. (faulty : Faulty) → script_text 1 bytes ≡ Err faulty → result ≢ 3 → result ≢ 4 → RefusesLine o o' faulty result)
       by None is = tt
-      by (Some bytes) is = λ faulty wrong kept. told bytes faulty is wrong kept says tells
+      by (Some bytes) is = λ faulty wrong kept whole. at bytes faulty e.0 is e.1 wrong kept (told_whole e.0 e.2 whole)
+
+-- a status that there is not today
+pub never : (result k : ℕ) → (result ≤ 4) ⊎ (result ≡ 7) → 5 ≤ k → k ≢ 7 → result ≢ k
+never result k (inl low) above not = λ is. omega arith
+never result k (inr seven) above not = λ is. not (sym is ∙ seven)
+
+pub at_most_ten : (result : ℕ) → (result ≤ 4) ⊎ (result ≡ 7) → result ≤ 10
+at_most_ten result (inl low) = omega arith
+at_most_ten result (inr seven) = omega arith
+
+-- no read was made after the end of what was read, which was met or not
+pub late_by : (late : Option ℕ) (count : ℕ) → count ≤ 16777217 → (count < 16777217 → late ≡ Some 0) → (count ≡ 16777217 → late ≡ None) → IfSome late (λ reads. reads ≡ 0)
+late_by late count bound met full = by (cases_lt count 16777217)
+  where
+    by : (count < 16777217) ⊎ (16777217 ≤ count) → IfSome late (λ reads. reads ≡ 0)
+    by (inl few) = subst (λ l. IfSome l (λ reads. reads ≡ 0)) (sym (met few)) refl
+    by (inr all) = subst (λ l. IfSome l (λ reads. reads ≡ 0)) (sym (full (omega arith))) tt

@@ -1,14 +1,15 @@
--- How a run of the program ends: with which status and which text, and why.
-use Rattle.std.specs.Prelude.{◌≡◌, ℕ, ◌+◌, ◌≤◌, ◌⊎◌, length, Bool, true, false, List, [], ◌∷◌, ◌++◌, map, codes, decimal, Option, Ok, Err, IfSome, String, string_bytes}
-use Rattle.spl_port.specs.Counts.{Rose}
-use Rattle.spl_message.specs.Rule.{newest}
+-- What the program has to tell when it ends, and why.
+use Rattle.std.specs.Prelude.{◌≡◌, ℕ, ◌+◌, ◌≤◌, ◌⊎◌, length, List, [], ◌∷◌, ◌++◌, map, codes, decimal, Option, Ok, Err, IfSome, String, string_bytes}
+use Rattle.spl_port.specs.Counts.{raised_count}
+use Rattle.spl_port.specs.Streams.{Input}
+use Rattle.spl_message.specs.Rule.{Rule}
 use Rattle.spl_script.specs.declared.fault.LineWhy.{LineWhy}
 use Rattle.spl_script.specs.declared.fault.LineWhy.TheVariants.{Size, Fields, Caller, Verb, Value, Text, Key, Later}
 use Rattle.spl_script.specs.declared.script.ScriptLine.{ScriptLine}
 use Rattle.spl_script.specs.Script.{Faulty, script_text}
 use Rattle.spl_top.specs.declared.report.Row.{Row}
-use Rattle.spl_top.specs.Legal.{IsLegal, IsComplete}
 use Rattle.spl_top.specs.ReportText.{report_text}
+use Rattle.spl_top.specs.Status.{IsRunOf}
 
 -- the words of the program are the one word `run`
 abbrev pub IsRun : {A : Type 0} → List (String A) → Type 0
@@ -27,53 +28,59 @@ why_text Later = codes "later"
 abbrev pub fault_text : Faulty → List ℕ
 fault_text faulty = codes "line " ++ decimal faulty.line ++ codes ": " ++ why_text faulty.why ++ codes "\n"
 
--- what there is to tell: a refusal, or the rows of a run and whether a caller ended early
+-- what there is to tell: a refusal, that memory ran out before there was a report, or the rows of a run of a script and its
+-- status
 pub data Outcome : Type 0 where
   bad_words : Outcome
   bad_source : Outcome
   bad_line : Faulty → Outcome
-  rows_of_run : List Row → Bool → Outcome
+  no_memory : Outcome
+  ran : List ScriptLine → List Row → ℕ → Outcome
 
 abbrev pub status_of : Outcome → ℕ
 status_of bad_words = 1
-status_of bad_source = 3
 status_of (bad_line faulty) = 2
-status_of (rows_of_run rows false) = 0
-status_of (rows_of_run rows true) = 7
+status_of bad_source = 3
+status_of no_memory = 7
+status_of (ran script rows status) = status
 
 abbrev pub text_of : Outcome → List ℕ
 text_of bad_words = codes "words\n"
-text_of bad_source = codes "source\n"
 text_of (bad_line faulty) = fault_text faulty
-text_of (rows_of_run rows early) = report_text rows
+text_of bad_source = codes "source\n"
+text_of no_memory = codes "memory\n"
+text_of (ran script rows status) = report_text rows
 
--- why a run whose input is these bytes ends so: a line is faulty, or the rows are legal for the script that the bytes spell,
--- and where no caller ended early, all of the script is answered
-abbrev pub EndsByInput : List ℕ → Outcome → Type 0
-EndsByInput input bad_words = ⊥
-EndsByInput input bad_source = ⊥
-EndsByInput input (bad_line faulty) = script_text 1 input ≡ Err faulty
-EndsByInput input (rows_of_run rows early) =
-    (length input ≤ 16777216) × (script : List ScriptLine) × (script_text 1 input ≡ Ok script) × IsLegal newest rows script × (early ≡ false → IsComplete rows script)
+-- an outcome of an input that was read: a line is faulty, or the rows are those of a run of the script that the bytes spell
+abbrev pub EndsByInput : Rule → ℕ → List ℕ → Outcome → Type 0
+EndsByInput rule callers input bad_words = ⊥
+EndsByInput rule callers input bad_source = ⊥
+EndsByInput rule callers input (bad_line faulty) = script_text callers input ≡ Err faulty
+EndsByInput rule callers input no_memory = ⊥
+EndsByInput rule callers input (ran script rows status) =
+    (length input ≤ 16777216) × (script_text callers input ≡ Ok script) × IsRunOf rule script rows status
 
 -- the source was read to its end, or 16,777,217 bytes of it were read
 abbrev pub IsRead : Option (List ℕ) → Option (List ℕ) → Type 0
 IsRead left rest = IfSome left (λ input. IfSome rest (λ more. (more ≡ []) ⊎ (length input ≡ 16777217 + length more)))
 
--- why a run ends so: by its words, by the bytes that the source tells before and after, and by the source's count of faults;
--- where rows are shown, the source was read to its end
-abbrev pub EndsBy : {A : Type 0} → List (String A) → Option (List ℕ) → Option (List ℕ) → ℕ → ℕ → Outcome → Type 0
-EndsBy words left rest before now bad_words = ¬ (IsRun words)
-EndsBy words left rest before now bad_source = IsRun words × Rose before now
-EndsBy words left rest before now (bad_line faulty) =
-    IsRun words × IfSome left (λ input. EndsByInput input (bad_line faulty)) × IsRead left rest
-EndsBy words left rest before now (rows_of_run rows early) =
-    IsRun words × IfSome left (λ input. EndsByInput input (rows_of_run rows early)) × IfSome rest (λ bytes. bytes ≡ [])
+-- the cause of an outcome, in the words and in the source before and after: refused words leave the source as it was, a bad
+-- source failed once, and in every other case no read failed; where rows are told, the source was read to its end
+abbrev pub EndsBy : Rule → ℕ → {A : Type 0} → List (String A) → Input → Input → Outcome → Type 0
+EndsBy rule callers words before after bad_words = ¬ (IsRun words) × (after ≡ before)
+EndsBy rule callers words before after bad_source = IsRun words × (after.faults ≡ raised_count before.faults)
+EndsBy rule callers words before after no_memory = IsRun words × (after.faults ≡ before.faults)
+EndsBy rule callers words before after (bad_line faulty) =
+    IsRun words × (after.faults ≡ before.faults)
+    × IfSome before.left (λ input. script_text callers input ≡ Err faulty)
+    × IsRead before.left after.left
+EndsBy rule callers words before after (ran script rows status) =
+    IsRun words × (after.faults ≡ before.faults)
+    × IfSome before.left (λ input. (length input ≤ 16777216) × (script_text callers input ≡ Ok script))
+    × IfSome after.left (λ rest. rest ≡ [])
+    × IsRunOf rule script rows status
 
--- the status and the text are those of an outcome that has its cause
-abbrev pub EndsWithInput : ℕ → List ℕ → List ℕ → Type 0
-EndsWithInput status text input = (outcome : Outcome) × EndsByInput input outcome × (status ≡ status_of outcome) × (text ≡ text_of outcome)
-
-abbrev pub Ends : {A : Type 0} → List (String A) → Option (List ℕ) → Option (List ℕ) → ℕ → ℕ → ℕ → List ℕ → Type 0
-Ends words left rest before now status text =
-    (outcome : Outcome) × EndsBy words left rest before now outcome × (status ≡ status_of outcome) × (text ≡ text_of outcome)
+-- the status and the text are those of an outcome of this input
+abbrev pub EndsWithInput : Rule → ℕ → ℕ → List ℕ → List ℕ → Type 0
+EndsWithInput rule callers status text input =
+    (outcome : Outcome) × EndsByInput rule callers input outcome × (status ≡ status_of outcome) × (text ≡ text_of outcome)

@@ -9,7 +9,7 @@ use Rattle.spl_message.specs.declared.call.Call.TheVariants.{Put, Look, Piece}
 use Rattle.spl_message.specs.Answer.{told_of}
 use Rattle.spl_message.specs.Cell.{Cell}
 use Rattle.spl_message.specs.Message.{act}
-use Rattle.spl_message.specs.Rule.{newest}
+use Rattle.spl_message.specs.Rule.{Rule}
 
 -- a store holds a cell for each key
 abbrev pub Cells : Type 0
@@ -23,14 +23,14 @@ abbrev pub SetsTo : Cells → Cells → List ℕ → Cell → Type 0
 SetsTo before after key cell = (other : List ℕ) → after other ≡ (if same_key key other then cell else before other)
 
 -- a message is put to a key, and no other key's cell changes
-abbrev pub PutsTo : Cells → Cells → List ℕ → Message → Type 0
-PutsTo before after key message = (other : List ℕ) → after other ≡ (if same_key key other then act newest other (before other) message else before other)
+abbrev pub PutsTo : Rule → Cells → Cells → List ℕ → Message → Type 0
+PutsTo rule before after key message = (other : List ℕ) → after other ≡ (if same_key key other then act rule other (before other) message else before other)
 
 -- a call puts what it puts
-abbrev pub Puts : Cells → Cells → Call → Type 0
-Puts before after (Put key message) = PutsTo before after key message
-Puts before after (Look key) = SameCells before after
-Puts before after (Piece span) = ⊥
+abbrev pub Puts : Rule → Cells → Cells → Call → Type 0
+Puts rule before after (Put key message) = PutsTo rule before after key message
+Puts rule before after (Look key) = SameCells before after
+Puts rule before after (Piece span) = ⊥
 
 -- what a call answers over these cells
 abbrev pub AnsweredFrom : Cells → Call → Answer → Type 0

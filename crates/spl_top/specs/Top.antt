@@ -1,40 +1,44 @@
 -- What the program leaves in its sink, and with which status it ends.
-use Rattle.std.specs.Prelude.{◌≡◌, ℕ, ◌⊎◌, List, [], Option, IfSome, Ok, Err, codes, String}
+use Rattle.std.specs.Prelude.{◌≡◌, ℕ, ◌⊎◌, List, Option, Ok, codes, String}
 use Rattle.spl_port.specs.Bytes.{Takes, TakesPart}
-use Rattle.spl_port.specs.Counts.{Rose}
-use Rattle.spl_message.specs.Rule.{newest}
+use Rattle.spl_port.specs.Counts.{raised_count}
+use Rattle.spl_port.specs.Streams.{Input, Output}
+use Rattle.spl_message.specs.Rule.{Rule}
 use Rattle.spl_script.specs.declared.script.ScriptLine.{ScriptLine}
 use Rattle.spl_script.specs.Script.{Faulty, script_text}
 use Rattle.spl_top.specs.declared.report.Row.{Row}
-use Rattle.spl_top.specs.Legal.{IsLegal, IsComplete}
-use Rattle.spl_top.specs.Outcome.{IsRun, Ends, fault_text}
+use Rattle.spl_top.specs.Outcome.{Outcome, EndsBy, status_of, text_of, fault_text}
 use Rattle.spl_top.specs.ReportText.{report_text}
+use Rattle.spl_top.specs.Status.{IsRunOf}
 
--- the whole text is told with this status; or the sink failed, holds a front of the text, and the status is 4
-abbrev pub Tells : Option (List ℕ) → Option (List ℕ) → ℕ → ℕ → ℕ → List ℕ → ℕ → Type 0
-Tells held now before after status text result =
-    ((result ≡ status) × Takes held now text) ⊎ ((result ≡ 4) × Rose before after × TakesPart held now text)
+-- the sink took the whole text, no write failed, and the status is this one
+abbrev pub TellsAll : Output → Output → ℕ → List ℕ → ℕ → Type 0
+TellsAll before after status text result = (result ≡ status) × Takes before.held after.held text × (after.faults ≡ before.faults)
 
--- what there is to tell: an outcome that has its cause, or that memory ran out
-abbrev pub Says : {A : Type 0} → List (String A) → Option (List ℕ) → Option (List ℕ) → ℕ → ℕ → ℕ → List ℕ → Type 0
-Says words left rest before now status text = Ends words left rest before now status text ⊎ ((status ≡ 7) × (text ≡ codes "memory\n"))
+-- a write failed, the sink holds a front of the text, and the status is 4
+abbrev pub TellsPart : Output → Output → List ℕ → ℕ → Type 0
+TellsPart before after text result = (result ≡ 4) × TakesPart before.held after.held text × (after.faults ≡ raised_count before.faults)
 
--- the sink holds the report of rows that are legal for the script behind what it held, and where the status is 0, all of the
--- script is answered; or memory ran out, and it holds that
-abbrev pub Reports : Option (List ℕ) → Option (List ℕ) → ℕ → List ScriptLine → Type 0
-Reports held now status script =
-    ((rows : List Row) × IsLegal newest rows script × Takes held now (report_text rows) × ((status ≡ 0) × IsComplete rows script ⊎ (status ≡ 7)))
-    ⊎ ((status ≡ 7) × Takes held now (codes "memory\n"))
+abbrev pub Tells : Output → Output → ℕ → List ℕ → ℕ → Type 0
+Tells before after status text result = TellsAll before after status text result ⊎ TellsPart before after text result
+
+-- there was an outcome, which has its cause, and it was told
+abbrev pub Ends : Rule → ℕ → {A : Type 0} → List (String A) → Input → Input → Output → Output → ℕ → Type 0
+Ends rule callers words source source' sink sink' result =
+    (outcome : Outcome) × EndsBy rule callers words source source' outcome × Tells sink sink' (status_of outcome) (text_of outcome) result
+
+-- the sink holds the report of a run of the script behind what it held, whose status is this one; or memory ran out before
+-- there was one, and it holds that
+abbrev pub Reports : Rule → List ScriptLine → Option (List ℕ) → Option (List ℕ) → ℕ → Type 0
+Reports rule script held now result =
+    ((rows : List Row) × IsRunOf rule script rows result × Takes held now (report_text rows))
+    ⊎ ((result ≡ 7) × Takes held now (codes "memory\n"))
 
 -- the whole script that the input spells is answered, and its report stands in the sink
-abbrev pub IsDone : Option (List ℕ) → Option (List ℕ) → List ℕ → Type 0
-IsDone held now input =
-    (script : List ScriptLine) × (rows : List Row) × (script_text 1 input ≡ Ok script) × IsLegal newest rows script × IsComplete rows script × Takes held now (report_text rows)
+abbrev pub IsDone : Rule → ℕ → Option (List ℕ) → Option (List ℕ) → List ℕ → Type 0
+IsDone rule callers held now input =
+    (script : List ScriptLine) × (script_text callers input ≡ Ok script) × (rows : List Row) × IsRunOf rule script rows 0 × Takes held now (report_text rows)
 
--- the text is told with its status, or the sink failed or memory ran out
-abbrev pub Refuses : Option (List ℕ) → Option (List ℕ) → ℕ → List ℕ → ℕ → Type 0
-Refuses held now status text result = ((result ≡ status) × Takes held now text) ⊎ (result ≡ 4) ⊎ (result ≡ 7)
-
--- the statuses that there are
-abbrev pub IsStatus : ℕ → Type 0
-IsStatus status = (status ≡ 0) ⊎ (status ≡ 1) ⊎ (status ≡ 2) ⊎ (status ≡ 3) ⊎ (status ≡ 4) ⊎ (status ≡ 7)
+-- the faulty line is told, or that memory ran out
+abbrev pub RefusesLine : Output → Output → Faulty → ℕ → Type 0
+RefusesLine before after faulty result = TellsAll before after 2 (fault_text faulty) result ⊎ TellsAll before after 7 (codes "memory\n") result

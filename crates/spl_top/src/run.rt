@@ -1,10 +1,11 @@
 //! The run of a script by one caller.
-ghost use Rattle.std.specs.Prelude.{◌≡◌, ◌<◌, ◌^◌, length, vec_len, false, All, OnOk, OnErr};
+ghost use Rattle.std.specs.Prelude.{◌≡◌, ◌<◌, ◌^◌, length, vec_len, All, OnOk, OnErr};
 ghost use Rattle.spl_message.specs.Rule.{newest};
 ghost use Rattle.spl_script.specs.Deed.{IsDeed};
 ghost use Rattle.spl_top.specs.Cells.{cells_of};
-ghost use Rattle.spl_top.specs.Legal.{IsLegal, IsComplete};
 ghost use Rattle.spl_top.specs.Run.{Logs, Stops};
+ghost use Rattle.spl_top.specs.Status.{IsRunOf};
+ghost use Rattle.spl_top.specs.Store.{SameCells};
 
 use crate::report::Row;
 use crate::store::Store;
@@ -12,18 +13,23 @@ use spl_message::{Answer, Cause, NoMemory};
 use spl_script::{Deed, ScriptLine, Scripts};
 use std::alloc::Global;
 
-/// The rows of a run, and whether the caller ended early.
+/// The status of a run that answered its whole script.
+const DONE: u8 = 0;
+
+/// The status of a run that ran out of memory.
+const OUT_OF_MEMORY: u8 = 7;
+
+/// The rows of a run, and its status.
 #[derive(Drop)]
 pub struct Ran {
     pub rows: Vec<Row>,
-    pub ended_early: bool,
+    pub status: u8,
 }
 
 /// Runs the script of caller 0 over a store of its own.
 pub fn run(alloc: Global, script: &Scripts) -> Ran
     requires { All (λ line. line.caller < 1) script.now }
-    ensures legal { IsLegal newest result.rows.items script.now }
-    ensures complete { result.ended_early ≡ false → IsComplete result.rows.items script.now }
+    ensures { IsRunOf newest script.now result.rows.items result.status }
 {
     let mut store = Store::new(alloc);
     let mut rows = Vec::new(alloc);
@@ -34,23 +40,21 @@ pub fn run(alloc: Global, script: &Scripts) -> Ran
             Err(NoMemory) => {
                 return Ran {
                     rows,
-                    ended_early: true,
+                    status: OUT_OF_MEMORY,
                 };
             }
         }
     }
-    Ran {
-        rows,
-        ended_early: false,
-    }
+    Ran { rows, status: DONE }
 }
 
 /// Makes the call of a line, at the next place. The row has its room before the call is made, so no call that was made goes
 /// unreported.
 fn make_line(store: &mut Store, rows: &mut Vec<Row>, line: &ScriptLine) -> Result<(), NoMemory>
     requires { IsDeed line.now.deed }
-    ensures ok { OnOk result (Logs rows.old.items rows.new.items (cells_of store.old) (cells_of store.new) line.now) }
+    ensures ok { OnOk result (Logs newest rows.old.items rows.new.items (cells_of store.old) (cells_of store.new) line.now) }
     ensures err { OnErr result (Stops rows.old.items rows.new.items line.now) }
+    ensures err_cells { OnErr result (SameCells (cells_of store.old) (cells_of store.new)) }
 {
     rows.reserve(1)?;
     let Deed::One(call) = &line.deed;

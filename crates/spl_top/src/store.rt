@@ -2,6 +2,7 @@
 ghost use Rattle.std.specs.Prelude.{◌≡◌, ℕ, List, None, Some, IfOk, OnOk, OnErr};
 ghost use Rattle.spl_top.specs.Store.{SameCells, Puts, PutsTo, SetsTo, AnsweredFrom};
 ghost use Rattle.spl_message.specs.Answer.{told_of};
+ghost use Rattle.spl_message.specs.Rule.{newest};
 ghost use Rattle.spl_script.specs.Deed.{IsPutOrLook};
 ghost use Rattle.spl_top.specs.Cells.{cells_of};
 
@@ -28,7 +29,7 @@ impl Store {
     /// Makes the call, and answers it.
     pub fn call(&mut self, call: &Call) -> Result<Answer, NoMemory>
         requires { IsPutOrLook call.now }
-        ensures puts { OnOk result (Puts (cells_of self.old) (cells_of self.new) call.now) }
+        ensures puts { OnOk result (Puts newest (cells_of self.old) (cells_of self.new) call.now) }
         ensures answer { IfOk result (AnsweredFrom (cells_of self.old) call.now) }
         ensures err { OnErr result (SameCells (cells_of self.old) (cells_of self.new)) }
     {
@@ -43,7 +44,7 @@ impl Store {
     }
 
     fn put(&mut self, key: &Key, message: &Message) -> Result<(), NoMemory>
-        ensures ok { OnOk result (PutsTo (cells_of self.old) (cells_of self.new) key.now message.now) }
+        ensures ok { OnOk result (PutsTo newest (cells_of self.old) (cells_of self.new) key.now message.now) }
         ensures err { OnErr result (SameCells (cells_of self.old) (cells_of self.new)) }
     {
         match message {

@@ -1,20 +1,22 @@
 //! The top call.
-ghost use Rattle.std.specs.Prelude.{◌≡◌, ◌≢◌, ◌≤◌, ◌⊎◌, ℕ, List, [], IfSome, Ok, Err, codes};
-ghost use Rattle.spl_port.specs.Bytes.{Loses, Takes, TakesPart};
-ghost use Rattle.spl_port.specs.Counts.{Rose};
+ghost use Rattle.std.specs.Prelude.{◌≡◌, ◌≢◌, ◌≤◌, None, List, [], IfSome, Ok, Err, codes};
+ghost use Rattle.spl_message.specs.Rule.{newest};
+ghost use Rattle.spl_port.specs.Bytes.{Loses, Takes};
+ghost use Rattle.spl_port.specs.Counts.{raised_count};
 ghost use Rattle.spl_script.specs.declared.script.ScriptLine.{ScriptLine};
 ghost use Rattle.spl_script.specs.Script.{Faulty, script_text};
 ghost use Rattle.spl_top.specs.Outcome.{IsRead, IsRun, fault_text};
-ghost use Rattle.spl_top.specs.Top.{Tells, Says, Reports, Refuses, IsDone, IsStatus};
+ghost use Rattle.spl_top.specs.Top.{Tells, Ends, Reports, RefusesLine, IsDone};
 
-use crate::ending::ending_of;
+use crate::ending::{are_run, ending_of_input};
 use spl_message::NoMemory;
-use spl_port::{Failed, Sink, Source, write_whole};
+use spl_port::{Failed, ReadFault, Sink, Source, read_whole, write_whole};
+use spl_script::INPUT_LIMIT;
 use std::alloc::Global;
 
 /// Tells a text, and answers with its status, or with 4 where the sink failed.
 fn tell<O: Sink>(out: &mut O, text: &[u8], status: u8) -> u8
-    ensures { Tells (O.means out.old).held (O.means out.new).held (O.means out.old).faults (O.means out.new).faults status text.now result }
+    ensures { Tells (O.means out.old) (O.means out.new) status text.now result }
 {
     match write_whole(out, text) {
         Ok(()) => status,
@@ -24,12 +26,19 @@ fn tell<O: Sink>(out: &mut O, text: &[u8], status: u8) -> u8
 
 /// Ends the program, and tells how.
 fn end<I: Source, O: Sink>(alloc: Global, words: &[String], input: &mut I, out: &mut O) -> u8
-    ensures told { (status : ℕ) × (text : List ℕ)
-        × Says words.now (I.means input.old).left (I.means input.new).left (I.means input.old).faults (I.means input.new).faults status text
-        × Tells (O.means out.old).held (O.means out.new).held (O.means out.old).faults (O.means out.new).faults status text result }
+    ensures told { Ends newest 1 words.now (I.means input.old) (I.means input.new) (O.means out.old) (O.means out.new) result }
     ensures reading_ends { Loses (I.means input.old).left (I.means input.new).left 16777217 }
+    ensures no_late_read { (I.means input.old).late ≡ None → IfSome (I.means input.new).late (λ reads. reads ≡ 0) }
 {
-    match ending_of(alloc, words, input) {
+    if !are_run(words) {
+        return tell(out, b"words\n", 1);
+    }
+    let bytes = match read_whole(alloc, input, INPUT_LIMIT + 1) {
+        Ok(bytes) => bytes,
+        Err(ReadFault::Failed) => return tell(out, b"source\n", 3),
+        Err(ReadFault::NoMemory) => return tell(out, b"memory\n", 7),
+    };
+    match ending_of_input(alloc, bytes.as_slice()) {
         Ok(ending) => tell(out, ending.text.as_slice(), ending.status),
         Err(NoMemory) => tell(out, b"memory\n", 7),
     }
@@ -53,27 +62,40 @@ pub fn splinter<I: Source, O: Sink>(
     input: &mut I,
     out: &mut O,
 ) -> u8
+    // What there is to tell has its cause, and the sink holds it.
+    ensures told { Ends newest 1 words.now (I.means input.old) (I.means input.new) (O.means out.old) (O.means out.new) result }
+
     // The report is one legal history.
     ensures headline { IsRun words.now → IfSome (I.means input.old).left (λ bytes. (script : List ScriptLine) → script_text 1 bytes ≡ Ok script
-        → result ≢ 3 → result ≢ 4 → Reports (O.means out.old).held (O.means out.new).held result script) }
-    ensures done { result ≡ 0 → IsRun words.now
-        × IfSome (I.means input.old).left (IsDone (O.means out.old).held (O.means out.new).held) × IfSome (I.means input.new).left (λ bytes. bytes ≡ []) }
+        → result ≢ 3 → result ≢ 4 → Reports newest script (O.means out.old).held (O.means out.new).held result) }
+    ensures done { result ≡ 0 → IsRun words.now × IfSome (I.means input.old).left (IsDone newest 1 (O.means out.old).held (O.means out.new).held)
+        × IfSome (I.means input.new).left (λ bytes. bytes ≡ []) }
+    ensures memory { result ≡ 7 → IsRun words.now × ((script : List ScriptLine) × Reports newest script (O.means out.old).held (O.means out.new).held 7) }
 
-    // No more of the input is read.
+    // No more of the input is read, and nothing behind its end.
     ensures reading_ends { Loses (I.means input.old).left (I.means input.new).left 16777217 }
+    ensures no_late_read { (I.means input.old).late ≡ None → IfSome (I.means input.new).late (λ reads. reads ≡ 0) }
 
     // Each refusal comes for its cause, and where that cause holds.
-    ensures status { IsStatus result }
     ensures words_only { result ≡ 1 → ¬ (IsRun words.now) }
-    ensures words { ¬ (IsRun words.now) → Refuses (O.means out.old).held (O.means out.new).held 1 (codes "words\n") result }
-    ensures script_only { result ≡ 2 → IsRun words.now × IfSome (I.means input.old).left (λ bytes. (faulty : Faulty) × (script_text 1 bytes ≡ Err faulty))
-        × IsRead (I.means input.old).left (I.means input.new).left }
+    ensures words { ¬ (IsRun words.now) → Tells (O.means out.old) (O.means out.new) 1 (codes "words\n") result × (I.means input.new ≡ I.means input.old) }
+    ensures script_only { result ≡ 2 → IsRun words.now × IfSome (I.means input.old).left (λ bytes. (faulty : Faulty) × (script_text 1 bytes ≡ Err faulty)
+        × Takes (O.means out.old).held (O.means out.new).held (fault_text faulty)) × IsRead (I.means input.old).left (I.means input.new).left }
     ensures script { IsRun words.now → IfSome (I.means input.old).left (λ bytes. (faulty : Faulty) → script_text 1 bytes ≡ Err faulty
-        → result ≢ 3 → Refuses (O.means out.old).held (O.means out.new).held 2 (fault_text faulty) result) }
-    ensures source_only { result ≡ 3 → IsRun words.now × Rose (I.means input.old).faults (I.means input.new).faults × Takes (O.means out.old).held (O.means out.new).held (codes "source\n") }
-    ensures sink_only { result ≡ 4 → Rose (O.means out.old).faults (O.means out.new).faults × (status : ℕ) × (text : List ℕ)
-        × Says words.now (I.means input.old).left (I.means input.new).left (I.means input.old).faults (I.means input.new).faults status text
-        × TakesPart (O.means out.old).held (O.means out.new).held text }
+        → result ≢ 3 → result ≢ 4 → RefusesLine (O.means out.old) (O.means out.new) faulty result) }
+    ensures source_only { result ≡ 3 → IsRun words.now × ((I.means input.new).faults ≡ raised_count (I.means input.old).faults)
+        × Takes (O.means out.old).held (O.means out.new).held (codes "source\n") }
+    ensures source { (I.means input.new).faults ≢ (I.means input.old).faults → Tells (O.means out.old) (O.means out.new) 3 (codes "source\n") result }
+    ensures sink_only { result ≡ 4 → (O.means out.new).faults ≡ raised_count (O.means out.old).faults }
+    ensures sink { result ≢ 4 → (O.means out.new).faults ≡ (O.means out.old).faults }
+
+    // The other statuses have no cause yet.
+    ensures status { result ≤ 10 }
+    ensures device { result ≢ 5 }
+    ensures full { result ≢ 6 }
+    ensures damaged { result ≢ 8 }
+    ensures nodes { result ≢ 9 }
+    ensures spent { result ≢ 10 }
 {
     end(alloc, words, input, out)
 }

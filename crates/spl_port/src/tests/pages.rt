@@ -1,40 +1,29 @@
-ghost use Rattle.std.specs.Prelude.{◌≡◌, ◌<◌, ◌%◌, IsTrue, IfOk};
+ghost use Rattle.std.specs.Prelude.{◌≡◌, ◌<◌, IsTrue, IfOk};
 ghost use Rattle.spl_port.specs.Seal.{Allows, page_count};
 
 use crate::{
-    At, Blur, BlurPort, CallNumbers, Calls, Direct, MemPort, PAGE_BYTES, PageBytes, Pager, Patches,
-    Port, PortFault, Seal,
+    At, Blur, BlurPort, CallNumbers, Calls, MemPort, PAGE_BYTES, PageBytes, Patches, Port,
+    PortFault, Seal,
 };
 use std::test::Fail;
 
-/// Writes a page, and fetches it. It stands for the layers above: where the port tells its pages, the
+/// Writes a page, and reads it. It stands for the layers above: where the port tells its pages, the
 /// page is the one that was written.
-fn there_and_back<P: Port, G: Pager>(
-    port: &mut P,
-    pager: &G,
-    bytes: &[u8; PAGE_BYTES],
-) -> Result<PageBytes, PortFault>
+fn there_and_back<P: Port>(port: &mut P, bytes: &[u8; PAGE_BYTES]) -> Result<PageBytes, PortFault>
     ensures { IsTrue P.Seal.TELLS → IfOk result (λ page. page ≡ bytes.now) }
 {
     let mut draft = port.begin(3, 7, 64);
     port.append(&mut draft, bytes)?;
     let seal = port.seal(draft)?;
-    let at = seal.at(0);
-    pager.fetch(port, &seal, at)
+    port.read(&seal, 0)
 }
 
-/// The first page of a seal, as a branch fetches it: the seal's type is the caller's.
-fn first_page<S: Seal, P: Port<Seal = S>, G: Pager>(
-    port: &mut P,
-    pager: &G,
-    seal: &S,
-) -> Result<PageBytes, PortFault>
-    requires pages { 0 < page_count (S.means seal.now) }
-    requires first { (S.means seal.now).first % 32 ≡ 0 }
+/// The first page of a seal, as a branch reads it: the seal's type is the caller's.
+fn first_page<S: Seal, P: Port<Seal = S>>(port: &mut P, seal: &S) -> Result<PageBytes, PortFault>
+    requires { 0 < page_count (S.means seal.now) }
     ensures { IfOk result (λ page. Allows (S.means seal.now) 0 page) }
 {
-    let at = seal.at(0);
-    pager.fetch(port, seal, at)
+    port.read(seal, 0)
 }
 
 /// Says that a value may cross threads.
@@ -48,7 +37,7 @@ fn page_of(byte: u8) -> [u8; PAGE_BYTES] {
 #[test]
 fn a_page_is_read_as_it_was_written(rt: HostRuntime) -> Result<(), Fail> {
     let mut port = MemPort::new(rt.alloc());
-    let page = there_and_back(&mut port, &Direct, &page_of(b'L'))?;
+    let page = there_and_back(&mut port, &page_of(b'L'))?;
     assert!(rt; *page.bytes() == page_of(b'L'));
     assert_eq!(rt; (port.faults(), port.reads(), port.writes()), (0, 1, 1));
     Ok(())
@@ -80,7 +69,7 @@ fn a_seal_has_the_places_of_its_pages(rt: HostRuntime) -> Result<(), Fail> {
             leaf: false
         }
     );
-    assert!(rt; *first_page(&mut port, &Direct, &seal)?.bytes() == page_of(b'L'));
+    assert!(rt; *first_page(&mut port, &seal)?.bytes() == page_of(b'L'));
     crosses(&port);
     assert!(rt; seal.vouches(1, &page_of(b'I')));
     assert!(rt; !seal.vouches(1, &page_of(b'L')));
@@ -110,14 +99,14 @@ fn failing_reads_spare_the_other_calls(rt: HostRuntime) -> Result<(), Fail> {
     let alloc = rt.alloc();
     let mut reads = MemPort::failing(alloc, Calls::Reads);
     assert_eq!(rt;
-        there_and_back(&mut reads, &Direct, &page_of(1)).err(),
+        there_and_back(&mut reads, &page_of(1)).err(),
         Some(PortFault::Failed)
     );
     assert_eq!(rt; (reads.faults(), reads.reads(), reads.writes()), (1, 0, 1));
 
     let mut every = MemPort::failing(alloc, Calls::Every);
     assert_eq!(rt;
-        there_and_back(&mut every, &Direct, &page_of(1)).err(),
+        there_and_back(&mut every, &page_of(1)).err(),
         Some(PortFault::Failed)
     );
     assert_eq!(rt; (every.faults(), every.reads(), every.writes()), (1, 0, 0));
@@ -128,7 +117,7 @@ fn failing_reads_spare_the_other_calls(rt: HostRuntime) -> Result<(), Fail> {
 fn a_blurred_page_differs_where_it_is_patched(rt: HostRuntime) -> Result<(), Fail> {
     let alloc = rt.alloc();
     let mut zeros = BlurPort::new(alloc, Blur::Zeros);
-    let page = there_and_back(&mut zeros, &Direct, &page_of(b'L'))?;
+    let page = there_and_back(&mut zeros, &page_of(b'L'))?;
     assert!(rt; *page.bytes() == page_of(0));
 
     let mut first = page_of(b'L');
@@ -136,7 +125,7 @@ fn a_blurred_page_differs_where_it_is_patched(rt: HostRuntime) -> Result<(), Fai
     for (page, expected) in [(0, first), (1, page_of(b'L'))] {
         let bytes = Patches::from(vec![in alloc; (4095, 2), (4095, 1)]?);
         let mut patched = BlurPort::new(alloc, Blur::Patch { page, bytes });
-        let given = there_and_back(&mut patched, &Direct, &page_of(b'L'))?;
+        let given = there_and_back(&mut patched, &page_of(b'L'))?;
         assert!(rt; *given.bytes() == expected, "patched at {page}");
         assert_eq!(rt; patched.writes(), 1);
     }

@@ -1,6 +1,6 @@
-use Rattle.spl_quotient.specs.Fnv.{fingerprint_of}
-use Rattle.spl_branch.proofs.Admitting.{is_any}
+use Rattle.spl_branch.proofs.Admitting.{is_any_hash}
 use Rattle.spl_branch.proofs.branch.is_admitted.Goals as goal
 
 pub returns : goal.returns
-returns c = is_any c.args.filter.now.prints (fingerprint_of c.args.filter.now.q c.args.key.now) c.admits.result c.admits.ensures
+returns c =
+    is_any_hash c.args.filter.now.prints c.args.filter.now.q c.args.key.now c.hash.result c.admits_hash.result c.hash.ensures.value c.admits_hash.ensures

@@ -7,16 +7,15 @@ loop-init c = rw c.new-entries.ensures.items (so_far_none c.args.page c.args.byt
 
 pub returns-in_default : goal.returns-in_default
 returns-in_default c =
-    so_far_stops c.args.page c.args.bytes.now c.entry_count-count.result c.loop.counter c.loop.end c.loop.entries.items c.loop.rising _ c.loop.invariant c.loop-test.true
+    so_far_stops c.args.page c.args.bytes.now c.entry_count-count.result c.loop.counter c.loop.end c.loop.entries.items _ c.loop.invariant c.loop-test.true
     (rest_is c.loop.end c.args.bytes.now) c.in_default.ensures.value
 
 pub loop-preserved : goal.loop-preserved
 loop-preserved c =
-    let rises = rw c.deref.ensures.value at c.rises-rising.ensures in
     rw (c.in_ok-push.ensures.items, c.entry_length-end.ensures.value)
-    (so_far_more c.args.page c.args.bytes.now c.entry_count-count.result c.loop.counter c.loop.end c.loop.entries.items c.loop.rising c.rises-rising.result c.in-Some.entry _
-    c.loop.invariant c.loop-test.true c.requires (rest_is c.loop.end c.args.bytes.now) c.in-Some.ensures.value c.in-Some.ensures.length c.in-Some.ensures.within rises)
+    (so_far_more c.args.page c.args.bytes.now c.entry_count-count.result c.loop.counter c.loop.end c.loop.entries.items c.in-Some.entry _
+    c.loop.invariant c.loop-test.true c.requires (rest_is c.loop.end c.args.bytes.now) c.in-Some.ensures.value c.in-Some.ensures.length c.in-Some.ensures.within)
 
 pub returns : goal.returns
 returns c =
-    so_far_all c.args.page c.args.bytes.now c.entry_count-count.result c.loop.counter c.loop.end c.loop.entries.items c.loop.rising c.loop.invariant c.loop-test.false
+    so_far_all c.args.page c.args.bytes.now c.entry_count-count.result c.loop.counter c.loop.end c.loop.entries.items c.loop.invariant c.loop-test.false

@@ -8,7 +8,7 @@ loop-init c = rw c.new-entries.ensures.items (so_far_none c.args.bytes.now c.ent
 pub returns-in_default : goal.returns-in_default
 returns-in_default c =
     let none = rw c.in_default.is at c.in_ok-entry.ensures.value in
-    so_far_stops c.args.bytes.now c.entry_count-count.result c.loop.counter c.loop.end c.loop.entries.items c.loop.rising _ c.loop.invariant c.loop-test.true
+    so_far_stops c.args.bytes.now c.entry_count-count.result c.loop.counter c.loop.end c.loop.entries.items _ c.loop.invariant c.loop-test.true
     (rest_is c.loop.end c.args.bytes.now) none
 
 pub loop-preserved : goal.loop-preserved
@@ -16,11 +16,10 @@ loop-preserved c =
     let value = rw c.in-Some.is at c.in_ok-entry.ensures.value in
     let len = rw c.in-Some.is at c.in_ok-entry.ensures.length in
     let within = rw c.in-Some.is at c.in_ok-entry.ensures.within in
-    let rises = rw c.deref.ensures.value at c.rises-rising.ensures in
     rw (c.in_ok-push.ensures.items, c.entry_length-end.ensures.value)
-    (so_far_more c.args.bytes.now c.entry_count-count.result c.loop.counter c.loop.end c.loop.entries.items c.loop.rising c.rises-rising.result c.in-Some.entry _
-    c.loop.invariant c.loop-test.true c.requires (rest_is c.loop.end c.args.bytes.now) value len within rises)
+    (so_far_more c.args.bytes.now c.entry_count-count.result c.loop.counter c.loop.end c.loop.entries.items c.in-Some.entry _
+    c.loop.invariant c.loop-test.true c.requires (rest_is c.loop.end c.args.bytes.now) value len within)
 
 pub returns : goal.returns
 returns c =
-    so_far_all c.args.bytes.now c.entry_count-count.result c.loop.counter c.loop.end c.loop.entries.items c.loop.rising c.loop.invariant c.loop-test.false
+    so_far_all c.args.bytes.now c.entry_count-count.result c.loop.counter c.loop.end c.loop.entries.items c.loop.invariant c.loop-test.false

@@ -10,7 +10,7 @@ use Rattle.spl_quotient.proofs.filter.table_of.Goals as goal
 
 pub new-requires : goal.new-requires
 new-requires c =
-    rw c.slot_count.ensures (origin_below c.args.q c.farthest_ahead-first.result c.quotient_at.result c.args.prints.now c.farthest_ahead-first.ensures.within c.requires.bits c.quotient_at.ensures.some c.quotient_at.ensures.none)
+    rw c.slot_count.ensures (origin_below c.args.q c.farthest_ahead-first.result c.quotient_at.result c.args.spots.now c.farthest_ahead-first.ensures.within c.requires.bits c.quotient_at.ensures.some c.quotient_at.ensures.none)
 
 pub lay-requires-clause-numbers : goal.lay-requires-clause-numbers
 lay-requires-clause-numbers c = λ k d within.
@@ -19,7 +19,7 @@ lay-requires-clause-numbers c = λ k d within.
 
 pub lay-requires-clause-turn : goal.lay-requires-clause-turn
 lay-requires-clause-turn c =
-    let prints = c.args.prints.now in
+    let prints = c.args.spots.now in
     let first = c.farthest_ahead-first.result in
     let origin = ap (λ (table : Table). table.origin) c.in_ok-table.ensures in
     let long = ap (λ (table : Table). length table.slots) c.in_ok-table.ensures ∙ length-replicate c.slot_count.result blank ∙ c.slot_count.ensures in
@@ -31,10 +31,10 @@ lay-requires-clause-turn c =
       | inr none ↦ in_turn_none prints first _ _ (omega arith)
     ]
 
-pub returns-clause-prints : goal.returns-clause-prints
-returns-clause-prints c =
+pub returns-clause-spots : goal.returns-clause-spots
+returns-clause-spots c =
     let q = c.args.q in
-    let prints = c.args.prints.now in
+    let prints = c.args.spots.now in
     let first = c.farthest_ahead-first.result in
     let table = c.lay.new.table in
     let long : length table.slots ≡ 2 ^ q =

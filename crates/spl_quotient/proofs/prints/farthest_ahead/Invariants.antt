@@ -4,6 +4,6 @@ use Rattle.spl_quotient.proofs.prints.farthest_ahead.Given as goal
 
 abbrev pub invariant-loop-i : goal.invariant-loop-i
 invariant-loop-i l = record {
-  within : 0 < length l.prints → l.farthest < length l.prints;
-  farthest : (k : ℕ) → k < l.i → slice_index l.prints k / 2 ^ 12 + l.farthest ≤ slice_index l.prints l.farthest / 2 ^ 12 + k;
+  within : 0 < length l.spots → l.farthest < length l.spots;
+  farthest : (k : ℕ) → k < l.i → slice_index l.spots k / 2 ^ 12 + l.farthest ≤ slice_index l.spots l.farthest / 2 ^ 12 + k;
 }

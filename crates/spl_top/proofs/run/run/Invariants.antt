@@ -1,4 +1,4 @@
-use Rattle.std.proofs.Common.{◌≡◌, take}
+use Rattle.std.proofs.Common.{take}
 use Rattle.spl_top.specs.Cells.{cells_of}
 use Rattle.spl_top.proofs.Runs.{Ran}
 use Rattle.spl_top.proofs.run.run.Given as goal

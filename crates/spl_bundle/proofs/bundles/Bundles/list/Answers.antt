@@ -1,6 +1,6 @@
-use Rattle.std.proofs.Common.{◌≤◌, ◌<◌, ap, arith}
-use Rattle.spl_bundle.specs.Numbered.{Numbered, next_of}
-use Rattle.spl_bundle.proofs.Soundness.{next_is, list-is}
+use Rattle.std.proofs.Common.{ℕ, ◌≤◌, ◌<◌, get_or, ap, ◌∙◌, arith}
+use Rattle.spl_bundle.specs.Numbered.{Numbered, Bundle, bundle_at, next_of}
+use Rattle.spl_bundle.proofs.Soundness.{next_is, bundle-is}
 use Rattle.spl_bundle.proofs.bundles.Bundles.list.Goals as goal
 
 pub returns : goal.returns
@@ -10,4 +10,7 @@ returns c =
     let next = next_is _ c.self.invariant in
     let from : c.self.inside.first ≤ c.args.number = omega arith in
     let below : c.args.number < c.self.inside.next = omega arith in
-    rw (c.as_slice.ensures, c.slot_of.ensures, ← c.self.view_is) (list-is c.self.inside c.args.number c.index-self-slot_of.result c.self.told from below)
+    c.as_slice.ensures
+    ∙ ap (λ (n : ℕ). (get_or c.self.inside.slots n c.index-self-slot_of.result).branches.items) c.slot_of.ensures
+    ∙ ap (λ (b : Bundle). b.branches) (bundle-is c.self.inside c.args.number c.index-self-slot_of.result c.self.told from below)
+    ∙ ap (λ (q : Numbered). (bundle_at q c.args.number).branches) c.self.view_is

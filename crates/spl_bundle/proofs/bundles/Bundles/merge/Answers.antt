@@ -1,5 +1,5 @@
 use Rattle.std.proofs.Common.{◌≡◌, ◌-◌, ◌+◌, ◌<◌, ◌≤◌, [], ℕ, refl, ap, ◌∙◌, arith}
-use Rattle.spl_bundle.specs.Numbered.{Numbered, next_of, merged}
+use Rattle.spl_bundle.specs.Numbered.{Numbered, unmarked, next_of, merged}
 use Rattle.spl_bundle.specs.Slots.{contents, window}
 use Rattle.spl_bundle.proofs.Windows.{length-window}
 use Rattle.spl_bundle.proofs.Soundness.{next_is, numbered-merge, slice_of_option}
@@ -32,7 +32,7 @@ loop-number-preserved c =
     record {
       same_first = c.loop-number.invariant.same_first;
       same_next = c.loop-number.invariant.same_next;
-      lists = run_more lists (contents c.loop-number.self-inside.slots) (contents c.fill.new.slots) first count c.max-from.result c.loop-number.number [] (length-window _ first count) sound.lists start c.loop-number.auto.number below c.fill.ensures.count c.fill.ensures.contents c.loop-number.invariant.lists refl;
+      lists = run_more lists (contents c.loop-number.self-inside.slots) (contents c.fill.new.slots) first count c.max-from.result c.loop-number.number (unmarked []) (length-window _ first count) sound.lists start c.loop-number.auto.number below c.fill.ensures.count c.fill.ensures.contents c.loop-number.invariant.lists refl;
       slots = c.fill.ensures.slots;
     }
 
@@ -52,6 +52,6 @@ returns c =
     let end : c.loop-number.number ≡ c.args.last = omega arith in
     let run = c.loop-number.invariant.lists ∙ ap (λ (n : ℕ). emptied lists (from - first) (n - from)) end in
     let output = slice_of_option c.args.output c.as_slice.result.now c.as_slice.ensures in
-    let after = run_end lists (contents c.loop-number.self-inside.slots) (contents c.fill-2.new.slots) first count from c.args.last c.as_slice.result.now (length-window _ first count) sound.lists start ordered below c.fill-2.ensures.count c.fill-2.ensures.contents run in
+    let after = run_end lists (contents c.loop-number.self-inside.slots) (contents c.fill-2.new.slots) first count from c.args.last (unmarked c.as_slice.result.now) (length-window _ first count) sound.lists start ordered below c.fill-2.ensures.count c.fill-2.ensures.contents run in
     numbered-merge c.self.inside (record { slots = c.fill-2.new.slots; first = c.loop-number.self-inside.first; next = c.loop-number.self-inside.next }) c.args.first c.args.last from c.args.output c.as_slice.result.now c.loop-number.invariant.same_first c.loop-number.invariant.same_next c.max-from.ensures output after
     ∙ ap (λ q. merged q c.args.first c.args.last c.args.output) c.self.view_is

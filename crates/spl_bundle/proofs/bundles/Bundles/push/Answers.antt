@@ -1,5 +1,4 @@
-use Rattle.std.proofs.Common.{◌<◌, ◌-◌, length, ap, ◌∙◌, inl, inr, arith}
-use Rattle.std.proofs.lemmas.Bool.{cases_lt}
+use Rattle.std.proofs.Common.{◌<◌, ◌-◌, length, refl, ap, ◌∙◌, arith}
 use Rattle.spl_bundle.specs.declared.bundles.TheConstants.{MAX_LISTS}
 use Rattle.spl_bundle.specs.Numbered.{Numbered, next_of, pushed}
 use Rattle.spl_bundle.proofs.Soundness.{length-lists, next_is, numbered-push}
@@ -9,11 +8,9 @@ use Rattle.spl_bundle.proofs.bundles.Bundles.push.Goals as goal
 room : (c : goal.After-self-1) → c.self.inside.next - c.self.inside.first < MAX_LISTS
 room c =
     let counted = length-lists c.self.inside in
-    let same = ap (λ (q : Numbered). length q.lists) c.self.view_is in
-    elim (cases_lt (length c.args.self.now.lists) MAX_LISTS) [
-      | inl below ↦ omega arith
-      | inr above ↦ let full = c.if-is_full.ensures.full.1 (omega (arith, c.if-is_full.ensures.limits.lists)) in cc full
-    ]
+    let same = ap (λ (q : Numbered). length q.bundles) c.self.view_is in
+    let below = (c.in_ok-admit.ensures.accepted.0 refl).0 in
+    omega arith
 
 pub invariant_of-self : goal.invariant_of-self
 invariant_of-self c =

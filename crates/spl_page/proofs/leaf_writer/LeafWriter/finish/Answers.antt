@@ -1,6 +1,6 @@
 use Rattle.std.proofs.Common.{◌≡◌, ◌++◌, List, ℕ, drop, ap, subst, ◌∙◌, arith}
 use Rattle.std.specs.Prelude.{replicate, vec_len, ◌-◌}
-use Rattle.spl_message.specs.Table.{Table}
+use Rattle.spl_message.specs.Entries.{Entries}
 use Rattle.spl_port.specs.Page.{IsLeafPage}
 use Rattle.spl_page.specs.Frame.{head_text}
 use Rattle.spl_page.specs.LeafPage.{leaf_rows_of}
@@ -12,7 +12,7 @@ use Rattle.spl_page.proofs.leaf_writer.LeafWriter.finish.Goals.{In_ok-page}
 pub finish_page-requires-clause-begun : goal.finish_page-requires-clause-begun
 finish_page-requires-clause-begun c =
     let bytes = c.self.inside.bytes.items in
-    let is = subst (λ (t : Table). IsWritten t c.self.inside.count bytes) c.self.view_is c.self.invariant in
+    let is = subst (λ (t : Entries). IsWritten t c.self.inside.count bytes) c.self.view_is c.self.invariant in
     omega (arith, bytes_are _ _ bytes is, most _ _ bytes is, c.requires.entries)
 
 pub finish_page-requires-clause-fits : goal.finish_page-requires-clause-fits
@@ -29,7 +29,7 @@ made c =
 page_is : (c : In_ok-page) → IsLeafPage c.args.at c.in_ok-page.page (leaf_rows_of (leaf_entries_of c.args.self.now))
 page_is c =
     let bytes = c.self.inside.bytes.items in
-    let is = subst (λ (t : Table). IsWritten t c.self.inside.count bytes) c.self.view_is c.self.invariant in
+    let is = subst (λ (t : Entries). IsWritten t c.self.inside.count bytes) c.self.view_is c.self.invariant in
     is_page c.args.self.now c.self.inside.count bytes c.in_ok-page.page c.args.at (4096 - vec_len c.self.inside.bytes) is
     c.requires.leaf c.write_head-head.ensures.page c.write_head-head.ensures.branch c.requires.entries (made c)
 
@@ -47,10 +47,10 @@ returns-clause-ok c = reads _ _ _ (none_written _ c.in_ok-page.ensures.ok)
 
 pub returns-clause-most : goal.returns-clause-most
 returns-clause-most c =
-    let is = subst (λ (t : Table). IsWritten t c.self.inside.count c.self.inside.bytes.items) c.self.view_is c.self.invariant in
+    let is = subst (λ (t : Entries). IsWritten t c.self.inside.count c.self.inside.bytes.items) c.self.view_is c.self.invariant in
     omega (arith, most _ _ _ is, is.fits, is.counted)
 
 pub returns-in_err-page-clause-most : goal.returns-in_err-page-clause-most
 returns-in_err-page-clause-most c =
-    let is = subst (λ (t : Table). IsWritten t c.self.inside.count c.self.inside.bytes.items) c.self.view_is c.self.invariant in
+    let is = subst (λ (t : Entries). IsWritten t c.self.inside.count c.self.inside.bytes.items) c.self.view_is c.self.invariant in
     omega (arith, most _ _ _ is, is.fits, is.counted)

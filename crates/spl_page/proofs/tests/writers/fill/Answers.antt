@@ -1,7 +1,7 @@
 use Rattle.std.proofs.Common.{refl, sym, ap, subst, Some}
 use Rattle.std.specs.Map.{keys_of}
 use Rattle.std.proofs.lemmas.List.{nil_from_length}
-use Rattle.spl_message.specs.Table.{Table}
+use Rattle.spl_message.specs.Entries.{Entries}
 use Rattle.spl_page.proofs.LeafTables.{ends_at, entry_after}
 use Rattle.spl_page.proofs.Rising.{Ends, ends_none}
 use Rattle.spl_page.proofs.tests.writers.fill.Goals as goal
@@ -14,5 +14,5 @@ push-requires-clause-rising c = entry_after c.loop-number.writer c.loop-number.l
 
 pub loop-number-preserved : goal.loop-number-preserved
 loop-number-preserved c =
-    subst (λ (t : Table). Ends (keys_of t) (Some c.in_ok-key.key)) (sym c.in_ok-push.ensures.ok)
+    subst (λ (t : Entries). Ends (keys_of t) (Some c.in_ok-key.key)) (sym c.in_ok-push.ensures.ok)
     (ends_at c.loop-number.writer c.loop-number.last _ c.loop-number.invariant (c.if-not-rises.ensures refl))

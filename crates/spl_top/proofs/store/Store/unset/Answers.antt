@@ -1,5 +1,4 @@
-use Rattle.std.proofs.Common.{Some, None, cond, ap, ◌∙◌}
-use Rattle.spl_message.specs.Key.{same_key}
+use Rattle.std.proofs.Common.{None}
 use Rattle.spl_top.proofs.Stores.{chosen}
 use Rattle.spl_top.specs.Cells.{cells_of}
 use Rattle.spl_top.proofs.store.Store.unset.Goals as goal
