@@ -21,6 +21,7 @@ use Rattle.spl_branch.proofs.GrowingLists.{all_append, all_weaker}
 use Rattle.spl_branch.proofs.GrowingTable.{cuts_grow, keys_grow, leaf_entries_leaf}
 use Rattle.spl_build.proofs.Grove.{grove_leaf}
 use Rattle.spl_build.proofs.Rising.{last_push, rising_more, rising_without}
+use Rattle.spl_build.proofs.Stacking.{stacked_leaf}
 use Rattle.spl_build.specs.Cuts.{cuts_with}
 use Rattle.spl_build.specs.Work.{IsAdding, IsGrove, IsTold, WorkState, rootless, table_in}
 use Rattle.spl_build.specs.Written.{Appends, Written, next_place}
@@ -44,6 +45,7 @@ nothing_added number = record {
     most = omega arith;
     first = refl;
     height = omega arith;
+    shape = (0, 0, (refl, refl), record { packed = omega arith; few = omega arith; total = refl });
     some = λ none. absurd (omega arith);
     rising = tt;
     children = tt;
@@ -111,6 +113,7 @@ module _ (work : WorkState) (key : List ℕ) (message : Message) (first : Option
           most = omega (arith, adding.sound.most, length_push work.hashes (fnv_of key), length_push work.begun (key, message));
           first = first_is;
           height = adding.sound.height;
+          shape = adding.sound.shape;
           some = adding.sound.some;
           rising = subst (λ (ks : List (List ℕ)). AreRising (ks ++ keys_of (work.begun ++ (key, message) ∷ []))) (ap child_keys (sym rootless_is)) (subst AreRising (sym keys_more) rises);
           children = adding.sound.children;
@@ -223,6 +226,7 @@ module _ (tells : Bool) (work : WorkState) (written : Written) (bytes key : List
           most = omega (arith, adding.sound.most);
           first = refl;
           height = omega (arith, adding.sound.height, total_more);
+          shape = stacked_leaf work.leaves (page_total work.written.parts) (page_total written.parts) work.levels.waiting work.levels.above work.levels.height child adding.above adding.height total_more adding.sound.shape;
           some = λ some. omega (arith, length_push work.levels.waiting child);
           rising = subst (λ (rs : List IndexRow). AreRising (child_keys rs ++ [])) (sym rootless_new) (subst AreRising (sym new_keys) (rising_without (child_keys work.levels.waiting) key (drop 1 (keys_of work.begun)) [] before));
           children = subst (λ (rs : List IndexRow). AllByRecursion (λ r. r.child < page_total written.parts) rs) (sym rootless_new)

@@ -16,7 +16,10 @@ use Rattle.spl_branch.specs.Branch.{Branch, HoldsTable, IsBranch, leaf_entries}
 use Rattle.spl_branch.specs.Pages.{AreParts, page_total, shown_pages}
 use Rattle.spl_branch.specs.Tree.{IsTree, table_under}
 use Rattle.spl_branch.proofs.GrowingParts.{total_most}
-use Rattle.spl_build.specs.Work.{IsGrove, IsTold, IsWork, WorkState, table_in}
+use Rattle.spl_build.proofs.Stacking.{levels_many, levels_one, stacked_root}
+use Rattle.spl_build.specs.Builder.{IsCompact}
+use Rattle.spl_build.specs.Pyramid.{IsPyramid}
+use Rattle.spl_build.specs.Work.{IsGrove, IsStacked, IsTold, IsWork, WorkState, table_in}
 
 one_root : (waiting above : List IndexRow) → 0 < length waiting → length waiting + length above ≤ 1 → (row : IndexRow) × (waiting ≡ row ∷ []) × (above ≡ [])
 one_root [] above some few = absurd (omega arith)
@@ -97,9 +100,33 @@ module _ (work : WorkState) (filter : Filter) (sound : IsWork work) (leaf : work
     told = λ are_told. holds (sound.told are_told);
   }
 
+  levels_fit : IsPyramid work.leaves work.levels.height 1 (page_total work.written.parts - 1)
+  levels_fit =
+      let total : ℕ = page_total work.written.parts in
+      let found = one_root work.levels.waiting work.levels.above (sound.some (omega (arith, sound.height, some_leaves))) root in
+      stacked_root work.leaves total found.0 work.levels.height
+      (subst (λ (over : List IndexRow). IsStacked work.leaves (record { waiting = found.0 ∷ []; above = over; height = work.levels.height }) total) found.2
+      (subst (λ (rows : List IndexRow). IsStacked work.leaves (record { waiting = rows; above = work.levels.above; height = work.levels.height }) total) found.1 sound.shape))
+
+  pub is_compact : IsCompact made
+  is_compact =
+      let height_is : work.levels.height ≡ work.levels.height + 1 - 1 = omega arith in
+      record {
+        keys = omega (arith, sound.most, ap (λ (t : Table). length t) leaf);
+        levels = subst (λ (h : ℕ). IsPyramid work.leaves h 1 (page_total work.written.parts - 1)) height_is levels_fit;
+        one = levels_one work.leaves work.levels.height (page_total work.written.parts - 1) levels_fit;
+        many = levels_many work.leaves work.levels.height (page_total work.written.parts - 1) levels_fit;
+      }
+
   -- the same as the code has it
   pub branch_made : (number : ℕ) (extents : List ℕ) (sealed : List Sealed) (levels entries : ℕ) (cuts : List (List ℕ)) → number ≡ work.written.number → extents ≡ work.written.extents → sealed ≡ work.written.parts →
       levels ≡ work.levels.height + 1 → entries ≡ length work.hashes → cuts ≡ work.cuts →
       IsBranch (record { number = number; extents = extents; parts = sealed; leaves = work.leaves; levels = levels; entries = entries; cuts = cuts; filter = filter })
   branch_made number extents sealed levels entries cuts number_is extents_are parts_are levels_are entries_are cuts_are =
       rw (number_is, extents_are, parts_are, levels_are, entries_are, cuts_are) is_branch
+
+  pub compact_made : (number : ℕ) (extents : List ℕ) (sealed : List Sealed) (levels entries : ℕ) (cuts : List (List ℕ)) → number ≡ work.written.number → extents ≡ work.written.extents → sealed ≡ work.written.parts →
+      levels ≡ work.levels.height + 1 → entries ≡ length work.hashes → cuts ≡ work.cuts →
+      IsCompact (record { number = number; extents = extents; parts = sealed; leaves = work.leaves; levels = levels; entries = entries; cuts = cuts; filter = filter })
+  compact_made number extents sealed levels entries cuts number_is extents_are parts_are levels_are entries_are cuts_are =
+      rw (number_is, extents_are, parts_are, levels_are, entries_are, cuts_are) is_compact

@@ -21,6 +21,7 @@ module _ (work : WorkState) (extents : List ℕ) where
     most = sound.most;
     first = sound.first;
     height = sound.height;
+    shape = sound.shape;
     some = sound.some;
     rising = sound.rising;
     children = sound.children;

@@ -3,7 +3,7 @@ use Rattle.std.proofs.Common.{◌≡◌, ℕ, ◌+◌, ◌-◌, ◌<◌, ◌≤�
 use Rattle.std.specs.List.{AllByRecursion, last_or}
 use Rattle.std.specs.Map.{keys_of}
 use Rattle.std.proofs.lemmas.Grind.{replicate_next}
-use Rattle.std.proofs.lemmas.List.{length_push, map-append, take-append-drop}
+use Rattle.std.proofs.lemmas.List.{length-append, length_push, map-append, take-append-drop}
 use Rattle.spl_message.specs.Key.{AreRising}
 use Rattle.spl_message.specs.Table.{Table, IsTable, cuts_of}
 use Rattle.spl_port.specs.Counts.{Shown}
@@ -17,8 +17,9 @@ use Rattle.spl_branch.proofs.GrowingLists.{all_append, all_back, all_front, all_
 use Rattle.spl_branch.proofs.GrowingTable.{leaf_entries_index}
 use Rattle.spl_build.proofs.Grove.{grove_index, grove_risen}
 use Rattle.spl_build.proofs.Rising.{last_push, rising_without}
+use Rattle.spl_build.proofs.Stacking.{stacked_index}
 use Rattle.spl_build.specs.Levels.{adopted, parent_of, risen}
-use Rattle.spl_build.specs.Work.{IsGrove, IsTold, IsWork, WorkState, rootless, table_in}
+use Rattle.spl_build.specs.Work.{IsGrove, IsStacked, IsTold, IsWork, WorkState, rootless, table_in}
 use Rattle.spl_build.specs.Written.{Appends, Written, next_place}
 
 -- ---- the next level has the same pages
@@ -56,7 +57,8 @@ index_table_same tells old written bytes begun appends index told =
 
 module _ (tells : Bool) (work : WorkState) (written : Written) (bytes : List ℕ) (row : IndexRow) (more rest : List IndexRow) (sound : IsWork work)
     (split : work.levels.waiting ≡ row ∷ (more ++ rest)) (appends : Appends tells work.written written bytes) (index_sound : index_fault (next_place work.written false) bytes ≡ None)
-    (rows : children (page_total work.written.parts) bytes ≡ row ∷ more) (index : begins_leaf bytes ≡ false) where
+    (rows : children (page_total work.written.parts) bytes ≡ row ∷ more) (index : begins_leaf bytes ≡ false)
+    (roots : 1 < length (row ∷ (more ++ rest)) + length work.levels.above) (most : length (row ∷ more) ≤ 680) (many : 0 < length rest → 59 ≤ length (row ∷ more)) where
   kinds_more : kinds_of written.parts ≡ kinds_of work.written.parts ++ false ∷ []
   kinds_more = index_kinds tells work.written written bytes appends index
 
@@ -126,6 +128,9 @@ module _ (tells : Bool) (work : WorkState) (written : Written) (bytes : List ℕ
         most = sound.most;
         first = sound.first;
         height = omega (arith, height_risen rest over work.levels.height, sound.height, total_more);
+        shape =
+            stacked_index work.leaves (page_total work.written.parts) (page_total written.parts) row parent more rest work.levels.above work.levels.height total_more roots most many
+            (subst (λ (rs : List IndexRow). IsStacked work.leaves (record { waiting = rs; above = work.levels.above; height = work.levels.height }) (page_total work.written.parts)) split sound.shape);
         some = λ _. some_risen rest work.levels.above parent work.levels.height;
         rising = subst (λ (rs : List IndexRow). AreRising (child_keys rs ++ keys_of work.begun)) (sym (rootless_risen rest over work.levels.height))
             (subst AreRising (sym short_keys) (rising_without (child_keys work.levels.above) row.key (child_keys more) (child_keys rest ++ keys_of work.begun) (subst AreRising long_keys sound.rising)));
@@ -138,14 +143,17 @@ module _ (tells : Bool) (work : WorkState) (written : Written) (bytes : List ℕ
 -- the index page over the first waiting pages
 pub index_works : (tells : Bool) (work : WorkState) (written : Written) (bytes : List ℕ) (taken : List IndexRow) → IsWork work → taken ≡ take (length taken) work.levels.waiting → 0 < length taken →
     Appends tells work.written written bytes → index_fault (next_place work.written false) bytes ≡ None → children (page_total work.written.parts) bytes ≡ taken → begins_leaf bytes ≡ false →
+    1 < length work.levels.waiting + length work.levels.above → length taken ≤ 680 → (length taken < length work.levels.waiting → 59 ≤ length taken) →
     IsWork (record work { written = written; levels = adopted work.levels (length taken) (page_total work.written.parts) })
-index_works tells work written bytes [] sound front some appends index_sound rows index = absurd (omega arith)
-index_works tells work written bytes (row ∷ more) sound front some appends index_sound rows index =
+index_works tells work written bytes [] sound front some appends index_sound rows index roots most many = absurd (omega arith)
+index_works tells work written bytes (row ∷ more) sound front some appends index_sound rows index roots most many =
     let n : ℕ = length (row ∷ more) in
     let rest : List IndexRow = drop n work.levels.waiting in
     let split : work.levels.waiting ≡ row ∷ (more ++ rest) =
     sym (take-append-drop n work.levels.waiting) ∙ ap (λ (rs : List IndexRow). rs ++ rest) (sym front) in
+    let len : length work.levels.waiting ≡ length (row ∷ (more ++ rest)) = ap (λ (rs : List IndexRow). length rs) split in
+    let all = length-append more rest in
     let parent : parent_of work.levels.waiting (page_total work.written.parts) ≡ record { child = page_total work.written.parts; key = row.key } ∷ [] =
     ap (λ (rs : List IndexRow). parent_of rs (page_total work.written.parts)) split in
     subst (λ (rs : List IndexRow). IsWork (record work { written = written; levels = risen rest (work.levels.above ++ rs) work.levels.height })) (sym parent)
-    (index_step tells work written bytes row more rest sound split appends index_sound rows index)
+    (index_step tells work written bytes row more rest sound split appends index_sound rows index (omega (arith, roots, len)) most (λ some. many (omega (arith, len, all, some))))

@@ -2,6 +2,7 @@ pub mod Packing
 pub mod Parts
 pub mod Rising
 pub mod Grove
+pub mod Stacking
 pub mod Adding
 pub mod Indexing
 pub mod Closing

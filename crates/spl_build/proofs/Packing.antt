@@ -1,12 +1,13 @@
 -- Pages that get a parent.
-use Rattle.std.proofs.Common.{◌≡◌, ℕ, ◌+◌, ◌-◌, ◌<◌, ◌≤◌, List, [], ◌∷◌, ◌++◌, length, take, drop, get_or, refl, sym, ap, ap₂, ◌∙◌, subst, arith, add-one}
+use Rattle.std.proofs.Common.{◌≡◌, ℕ, ◌+◌, ◌-◌, ◌*◌, ◌<◌, ◌≤◌, List, [], ◌∷◌, ◌++◌, length, take, drop, get_or, refl, sym, ap, ap₂, ◌∙◌, subst, arith, add-one}
 use Rattle.std.proofs.Math.Seq.{take-suc, drop-cons}
 use Rattle.std.proofs.Math.ListN.{drop_of_length-le}
-use Rattle.std.proofs.lemmas.List.{drop-drop, drop-map, take-map, length-drop, length-take-le, length-map, map-append, map_push, take-append-drop}
+use Rattle.std.proofs.lemmas.List.Sums.{sum_by_push}
+use Rattle.std.proofs.lemmas.List.{drop-drop, drop-map, take-map, length-drop, length-take-le, length-map, length_push, map-append, map_push, take-append-drop}
 use Rattle.spl_message.specs.Key.{AreRising}
 use Rattle.spl_page.specs.declared.index_entry.IndexEntry.{IndexEntry}
-use Rattle.spl_page.specs.IndexPage.{index_row_of, index_rows_of}
-use Rattle.spl_page.specs.Tables.{child_keys}
+use Rattle.spl_page.specs.IndexPage.{index_entry_length, index_row_of, index_rows_of}
+use Rattle.spl_page.specs.Tables.{child_keys, children_length}
 use Rattle.spl_port.specs.Page.{IndexRow}
 use Rattle.spl_branch.proofs.GrowingTable.{rising_front}
 use Rattle.spl_build.specs.Levels.{LevelState, adopted, parent_of, risen}
@@ -80,3 +81,9 @@ pub waiting_count : (level above : List IndexEntry) (packed height : ℕ) (old :
     length old.waiting ≡ length level - packed
 waiting_count level above packed height old is =
     ap (λ (levels : LevelState). length levels.waiting) (sym is) ∙ length-map (drop packed level) index_row_of ∙ length-drop packed level
+
+-- one more child takes at most 69 bytes
+pub packed_more : (page : List IndexRow) (row : IndexRow) → children_length page ≤ 16 + 69 * length page → index_entry_length row.key ≤ 69 →
+    children_length (page ++ row ∷ []) ≤ 16 + 69 * length (page ++ row ∷ [])
+packed_more page row before short =
+    omega (arith, before, short, sum_by_push (λ (r : IndexRow). index_entry_length r.key) page row, length_push page row)

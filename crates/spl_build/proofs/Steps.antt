@@ -10,11 +10,13 @@ use Rattle.spl_message.specs.Key.{AreRising, is_below}
 use Rattle.spl_message.specs.Table.{Table, IsTable}
 use Rattle.spl_port.specs.declared.at.At.{At}
 use Rattle.spl_port.specs.Page.{IndexRow, index_fault, leaf_fault}
-use Rattle.spl_port.specs.Seal.{begins_leaf}
-use Rattle.spl_page.specs.Tables.{child_keys, children, leaf_table}
+use Rattle.spl_port.specs.Counts.{Counts}
+use Rattle.spl_port.specs.Seal.{Sealed, begins_leaf}
+use Rattle.spl_page.specs.LeafPage.{leaf_entry_length}
+use Rattle.spl_page.specs.Tables.{child_keys, children, leaf_table, table_length}
 use Rattle.spl_quotient.specs.Fnv.{fnv_of}
 use Rattle.spl_branch.specs.Branch.{leaf_entries}
-use Rattle.spl_branch.specs.Pages.{page_total, shown_pages}
+use Rattle.spl_branch.specs.Pages.{AreParts, kinds_of, page_total, shown_pages}
 use Rattle.spl_branch.specs.Tree.{first_key}
 use Rattle.spl_branch.proofs.GrowingLists.{all_back, all_take}
 use Rattle.spl_branch.proofs.GrowingTable.{keys_grow, rising_back, rising_front}
@@ -22,7 +24,8 @@ use Rattle.spl_build.proofs.Adding.{entry_adds, leaf_adds, leaf_table_same, noth
 use Rattle.spl_build.proofs.Indexing.{index_table_same, index_works}
 use Rattle.spl_build.specs.declared.fault.BuildFault.{BuildFault}
 use Rattle.spl_build.specs.declared.stage.Stage.{Stage}
-use Rattle.spl_build.specs.Builder.{Adds, Keeps, building}
+use Rattle.spl_build.specs.Builder.{Adds, Building, Keeps, WritesLeaf, building}
+use Rattle.spl_build.specs.Counts.{WritesPages}
 use Rattle.spl_build.specs.Cuts.{cuts_with}
 use Rattle.spl_build.specs.Levels.{LevelState, adopted}
 use Rattle.spl_build.specs.Work.{IsAdding, IsWork, WorkState, rootless}
@@ -51,9 +54,9 @@ module _ (work : WorkState) (key : List ℕ) (message : Message) (begun : Table)
       first_is ∙ ap (λ (o : Option (List ℕ)). option_or o (Some key)) adding.sound.first ∙ first_more work.begun key message in
       rw (begun_is, hashes_are, cuts_are, last_is) (entry_adds work key message first adding above first_ok)
 
-  pub push_done : (tells : Bool) (old : WorkState) (stage : Stage) (stopped : Option BuildFault) → work ≡ old → stopped ≡ None →
+  pub push_done : (tells : Bool) (old : WorkState) (stage : Stage) (stopped : Option BuildFault) → work ≡ old → stopped ≡ None → table_length work.begun + leaf_entry_length key message ≤ 4096 →
       Adds tells (building old stage stopped) (building (record work { begun = begun; first = first; hashes = hashes; cuts = cuts; last = last }) stage stopped) key message
-  push_done tells old stage stopped same none =
+  push_done tells old stage stopped same none fits =
       subst (λ (w : WorkState). Adds tells (building w stage stopped) (building (record work { begun = begun; first = first; hashes = hashes; cuts = cuts; last = last }) stage stopped) key message) same
       (record {
         number = refl;
@@ -61,7 +64,8 @@ module _ (work : WorkState) (key : List ℕ) (message : Message) (begun : Table)
         entries = ap (λ (hs : List ℕ). length hs) hashes_are ∙ length_push work.hashes (fnv_of key);
         hashes = hashes_are;
         last = last_is;
-        page = λ fits. begun_is;
+        page = λ _. record { begun = begun_is; parts = refl; roots = refl };
+        next = λ over. absurd (omega (arith, fits, over));
         cuts = cuts_are;
         stage = refl;
         stopped = none;
@@ -117,6 +121,58 @@ module _ (tells : Bool) (work : WorkState) (written : Written) (bytes key : List
         table = λ is. ap (λ (t : Table). leaf_entries (shown_pages written.parts) ++ t) begun_is ∙ leaf_table_same tells work written bytes key adding first_is few appends sound_there table leaf (appends.told is);
       })
 
+  pub leaf_written : (old : WorkState) (stage : Stage) (stopped : Option BuildFault) → work ≡ old → AreParts written.number written.extents written.parts →
+      WritesLeaf tells (building old stage stopped) (building (record work { written = written; begun = begun; first = None; leaves = leaves; levels = levels }) stage stopped)
+  leaf_written old stage stopped same parts =
+      let child : IndexRow = record { child = at.page; key = key } in
+      subst (λ (w : WorkState). WritesLeaf tells (building w stage stopped) (building (record work { written = written; begun = begun; first = None; leaves = leaves; levels = levels }) stage stopped)) same
+      (record {
+        parts = parts;
+        kinds = appends.kinds ∙ ap (λ (b : Bool). kinds_of work.written.parts ++ b ∷ []) leaf;
+        roots = omega (arith, ap (λ (l : LevelState). length l.waiting + length l.above) levels_are, length_push work.levels.waiting child);
+        told = λ is. (
+          bytes,
+          table,
+          appends.pages (appends.told is) ∙ ap (λ (b : Bool). shown_pages work.written.parts ++ record { at = next_place work.written b; bytes = bytes } ∷ []) leaf,
+        );
+      })
+
+-- a page more was written
+pub page_gained : (tells : Bool) (old new : Written) (bytes : List ℕ) (work : WorkState) (before after : Counts) → old ≡ work.written → Appends tells old new bytes → after.writes ≡ before.writes + 1 → after.faults ≡ before.faults →
+    WritesPages before after (page_total work.written.parts) (page_total new.parts)
+page_gained tells old new bytes work before after same appends writes faults =
+    let more : page_total new.parts ≡ page_total old.parts + 1 = ap (λ (kinds : List Bool). length kinds) appends.kinds ∙ length_push (kinds_of old.parts) (begins_leaf bytes) in
+    let was : page_total old.parts ≡ page_total work.written.parts = ap (λ (w : Written). page_total w.parts) same in
+    record { writes = omega (arith, writes, more, was); faults = faults }
+
+-- the entry did not fit into the page that was begun, which is written, and stands in the next one
+pub next_adds : (tells : Bool) (old mid new : Building) (key : List ℕ) (message : Message) → 4096 < table_length old.begun + leaf_entry_length key message → table_length [] + leaf_entry_length key message ≤ 4096 →
+    Keeps tells old mid → WritesLeaf tells old mid → mid.begun ≡ [] → mid.stage ≡ old.stage → Adds tells mid new key message → Adds tells old new key message
+next_adds tells old mid new key message over short kept written empty stage adds =
+    let goes = adds.page (subst (λ (t : Table). table_length t + leaf_entry_length key message ≤ 4096) (sym empty) short) in
+    record {
+      number = adds.number ∙ kept.number;
+      extents = adds.extents ∙ kept.extents;
+      entries = adds.entries ∙ ap (λ (n : ℕ). n + 1) kept.entries;
+      hashes = adds.hashes ∙ ap (λ (hs : List ℕ). hs ++ fnv_of key ∷ []) kept.hashes;
+      last = adds.last;
+      page = λ fits. absurd (omega (arith, over, fits));
+      next = λ _. (
+        goes.begun ∙ ap (λ (t : Table). t ++ (key, message) ∷ []) empty,
+        record {
+          parts = subst (λ (p : List Sealed). AreParts new.number new.extents p) (sym goes.parts)
+              (subst (λ (n : ℕ). AreParts n new.extents mid.parts) (sym adds.number) (subst (λ (e : List ℕ). AreParts mid.number e mid.parts) (sym adds.extents) written.parts));
+          kinds = ap kinds_of goes.parts ∙ written.kinds;
+          roots = goes.roots ∙ written.roots;
+          told = λ is. let found = written.told is in (found.0, found.1, ap shown_pages goes.parts ∙ found.2);
+        },
+      );
+      cuts = adds.cuts ∙ ap₂ (λ (cs : List (List ℕ)) (n : ℕ). cuts_with cs n key) kept.cuts kept.entries;
+      stage = adds.stage ∙ stage;
+      stopped = adds.stopped;
+      table = λ is. adds.table is ∙ ap (λ (t : Table). t ++ (key, message) ∷ []) (kept.table is);
+    }
+
 -- ---- one more index page
 
 all_at : {X : Type 0} (P : X → Type 0) (xs : List X) → AllByRecursion P xs → All P xs
@@ -150,14 +206,15 @@ module _ (work : WorkState) (sound : IsWork work) where
 
   module _ (tells : Bool) (written : Written) (bytes : List ℕ) (taken : List IndexRow) (at : At) (count : ℕ) (levels : LevelState) (appends : Appends tells work.written written bytes)
       (at_is : at ≡ next_place work.written false) (index : begins_leaf bytes ≡ false) where
-    pub index_writes : taken ≡ take (length taken) work.levels.waiting → 0 < length taken → index_fault at bytes ≡ None → children at.page bytes ≡ taken → count ≡ length taken →
+    pub index_writes : taken ≡ take (length taken) work.levels.waiting → 0 < length taken → 1 < length work.levels.waiting + length work.levels.above → length taken ≤ 680 →
+        (length taken < length work.levels.waiting → 59 ≤ length taken) → index_fault at bytes ≡ None → children at.page bytes ≡ taken → count ≡ length taken →
         levels ≡ adopted work.levels count at.page → IsWork (record work { written = written; levels = levels })
-    index_writes front some page_sound rows count_is levels_are =
+    index_writes front some roots most many page_sound rows count_is levels_are =
         let there : index_fault (next_place work.written false) bytes ≡ None = subst (λ (a : At). index_fault a bytes ≡ None) at_is page_sound in
         let rows_there : children (page_total work.written.parts) bytes ≡ taken = subst (λ (a : At). children a.page bytes ≡ taken) at_is rows in
         let levels_there : levels ≡ adopted work.levels (length taken) (page_total work.written.parts) =
         levels_are ∙ ap₂ (λ (n : ℕ) (a : At). adopted work.levels n a.page) count_is at_is in
-        rw levels_there (index_works tells work written bytes taken sound front some appends there rows_there index)
+        rw levels_there (index_works tells work written bytes taken sound front some appends there rows_there index roots most many)
 
     pub index_keeps : (old : WorkState) (stage : Stage) (stopped : Option BuildFault) → work ≡ old →
         Keeps tells (building old stage stopped) (building (record work { written = written; levels = levels }) stage stopped)

@@ -1,15 +1,16 @@
 -- A builder of a branch, as contracts see it.
-use Rattle.std.specs.Prelude.{◌≡◌, ℕ, ◌+◌, ◌<◌, ◌≤◌, ◌⊎◌, Bool, true, ◌↔◌, List, [], ◌∷◌, ◌++◌, length, map, Contains, Option, Some, None}
+use Rattle.std.specs.Prelude.{◌≡◌, ℕ, ◌+◌, ◌-◌, ◌*◌, ◌^◌, ◌<◌, ◌≤◌, ◌⊎◌, Bool, true, ◌↔◌, List, [], ◌∷◌, ◌++◌, length, map, Contains, Option, Some, None}
 use Rattle.spl_message.specs.declared.message.Message.{Message}
 use Rattle.spl_message.specs.Table.{Table}
+use Rattle.spl_port.specs.Counts.{Shown}
 use Rattle.spl_port.specs.Seal.{Sealed}
 use Rattle.spl_quotient.specs.Exponent.{IsExponent}
 use Rattle.spl_quotient.specs.Filter.{Filter}
 use Rattle.spl_quotient.specs.Fnv.{fnv_of, print_of}
 use Rattle.spl_page.specs.LeafPage.{leaf_entry_length}
-use Rattle.spl_page.specs.Tables.{table_length}
-use Rattle.spl_branch.specs.Branch.{Branch, leaf_entries, table_of}
-use Rattle.spl_branch.specs.Pages.{shown_pages}
+use Rattle.spl_page.specs.Tables.{leaf_table, table_length}
+use Rattle.spl_branch.specs.Branch.{Branch, IsBranch, leaf_entries, table_of}
+use Rattle.spl_branch.specs.Pages.{AreParts, kinds_of, page_total, shown_pages}
 use Rattle.spl_build.specs.declared.answer.Finish.{Finish}
 use Rattle.spl_build.specs.declared.answer.Finish.TheVariants.{Needs as Waiting, Empty, Built}
 use Rattle.spl_build.specs.declared.fault.BuildFault.{BuildFault}
@@ -17,7 +18,8 @@ use Rattle.spl_build.specs.declared.stage.Stage.{Stage}
 use Rattle.spl_build.specs.declared.stage.Stage.TheVariants.{Adding, Finishing, Over}
 use Rattle.spl_build.specs.Cuts.{cuts_with}
 use Rattle.spl_build.specs.Work.{IsAdding, IsFinishing, WorkState}
-use Rattle.spl_build.specs.Written.{IsFull}
+use Rattle.spl_build.specs.Pyramid.{IsPyramid}
+use Rattle.spl_build.specs.Written.{IsFull, next_place}
 
 -- its number, the extents that were handed in, the parts that are written, the leaf page that is begun, how many keys were added,
 -- their hashes, where the branch may be cut, the last key, how many written pages have no parent, its stage, and what stopped it
@@ -61,6 +63,24 @@ IsBuilding work Over None = Unit {0}
 abbrev pub added : Building → Table
 added builder = leaf_entries (shown_pages builder.parts) ++ builder.begun
 
+-- the entry fits into the leaf page that is begun: it stands there, and the written pages stay
+pub record GoesIn (old new : Building) (key : List ℕ) (message : Message) : Type 0 where
+  pub begun : new.begun ≡ old.begun ++ (key, message) ∷ []
+  pub parts : new.parts ≡ old.parts
+  pub roots : new.roots ≡ old.roots
+
+-- the page that is written next
+abbrev pub next_leaf : Building → List ℕ → Shown
+next_leaf builder bytes =
+    record { at = next_place (record { number = builder.number; extents = builder.extents; parts = builder.parts }) true; bytes = bytes }
+
+-- one page more is written, a leaf page, which holds what was begun. The parts lie in the handed-in extents, in their order.
+pub record WritesLeaf (tells : Bool) (old new : Building) : Type 0 where
+  pub parts : AreParts new.number new.extents new.parts
+  pub kinds : kinds_of new.parts ≡ kinds_of old.parts ++ true ∷ []
+  pub roots : new.roots ≡ old.roots + 1
+  pub told : tells ≡ true → (bytes : List ℕ) × (leaf_table bytes ≡ old.begun) × (shown_pages new.parts ≡ shown_pages old.parts ++ next_leaf old bytes ∷ [])
+
 -- the key was added with its message, behind the others
 pub record Adds (tells : Bool) (old new : Building) (key : List ℕ) (message : Message) : Type 0 where
   pub number : new.number ≡ old.number
@@ -68,8 +88,8 @@ pub record Adds (tells : Bool) (old new : Building) (key : List ℕ) (message : 
   pub entries : new.entries ≡ old.entries + 1
   pub hashes : new.hashes ≡ old.hashes ++ fnv_of key ∷ []
   pub last : new.last ≡ Some key
-  -- it stands in the leaf page that was begun, where it fits
-  pub page : table_length old.begun + leaf_entry_length key message ≤ 4096 → new.begun ≡ old.begun ++ (key, message) ∷ []
+  pub page : table_length old.begun + leaf_entry_length key message ≤ 4096 → GoesIn old new key message
+  pub next : 4096 < table_length old.begun + leaf_entry_length key message → (new.begun ≡ (key, message) ∷ []) × WritesLeaf tells old new
   pub cuts : new.cuts ≡ cuts_with old.cuts old.entries key
   pub stage : new.stage ≡ old.stage
   pub stopped : new.stopped ≡ None
@@ -89,9 +109,10 @@ pub record Keeps (tells : Bool) (old new : Building) : Type 0 where
   pub last : new.last ≡ old.last
   pub table : tells ≡ true → added new ≡ added old
 
--- a page waits, and has no extent; no key may come any more, and nothing else changed
+-- a page waits, and has no extent; no key may come any more, and what was added stays
 pub record Needs (tells : Bool) (old new : Building) : Type 0 where
   pub full : IsFull new.extents new.parts
+  pub parts : AreParts new.number new.extents new.parts
   pub waits : Waits new
   pub kept : Keeps tells old new
   pub stage : new.stage ≡ Finishing
@@ -102,6 +123,14 @@ pub record IsFilterOf (hashes : List ℕ) (filter : Filter) : Type 0 where
   pub exponent : IsExponent (length hashes) filter.q
   pub prints : (print : ℕ) → Contains filter.prints print ↔ Contains (map (print_of filter.q) hashes) print
 
+-- There are at most 816 keys a leaf page. A single leaf page is the whole branch; else packed index pages stand over the leaf pages, level
+-- by level up to one root, so that one level more needs 59 times as many leaf pages.
+pub record IsCompact (branch : Branch) : Type 0 where
+  pub keys : branch.entries ≤ 816 * branch.leaves
+  pub levels : IsPyramid branch.leaves (branch.levels - 1) 1 (page_total branch.parts - 1)
+  pub one : (branch.levels ≡ 1) ↔ (branch.leaves ≡ 1)
+  pub many : 1 < branch.levels → 59 ^ (branch.levels - 2) < branch.leaves
+
 -- the branch is that of what was added, in the extents that were handed in
 pub record Builds (tells : Bool) (old : Building) (branch : Branch) : Type 0 where
   pub number : branch.number ≡ old.number
@@ -109,6 +138,8 @@ pub record Builds (tells : Bool) (old : Building) (branch : Branch) : Type 0 whe
   pub entries : branch.entries ≡ old.entries
   pub cuts : branch.cuts ≡ old.cuts
   pub filter : IsFilterOf old.hashes branch.filter
+  pub sound : IsBranch branch
+  pub compact : IsCompact branch
   pub table : tells ≡ true → table_of branch ≡ added old
 
 -- the key does not fit into the leaf page that is begun, and the next page has no extent left

@@ -15,6 +15,7 @@ use Rattle.spl_branch.specs.Branch.{leaf_entries}
 use Rattle.spl_branch.specs.Pages.{AreTold, kinds_of, page_total, shown_pages}
 use Rattle.spl_branch.specs.Tree.{AreChildren, first_key, tables_under}
 use Rattle.spl_build.specs.Levels.{LevelState}
+use Rattle.spl_build.specs.Pyramid.{IsPyramid}
 use Rattle.spl_build.specs.Written.{IsFull, Written}
 
 -- the pages that are written, the leaf page that is begun and its first key, what is kept of the keys, how many leaf pages are
@@ -47,6 +48,16 @@ pub record IsGrove (pages : List Shown) (levels : LevelState) : Type 0 where
   pub high : AreChildren (suc levels.height) pages levels.above
   pub whole : tables_under (suc levels.height) pages levels.above ++ tables_under levels.height pages levels.waiting ≡ leaf_entries pages
 
+-- of the present level's pages, those that wait have no parent, and the others stand under the pages above, which are packed
+pub record IsLevel (levels : LevelState) (pages count lower : ℕ) : Type 0 where
+  pub packed : 59 * length levels.above + length levels.waiting ≤ count
+  pub few : count ≤ length levels.waiting + 680 * length levels.above
+  pub total : pages ≡ lower + count + length levels.above
+
+-- so many leaf pages are at the bottom, and so many pages are written
+abbrev pub IsStacked : ℕ → LevelState → ℕ → Type 0
+IsStacked leaves levels pages = (count : ℕ) × (lower : ℕ) × IsPyramid leaves levels.height count lower × IsLevel levels pages count lower
+
 -- what the told pages hold
 pub record IsTold (work : WorkState) : Type 0 where
   pub order : IsTable (table_in work.written.parts work.begun)
@@ -60,6 +71,7 @@ pub record IsWork (work : WorkState) : Type 0 where
   pub most : length work.hashes ≤ 816 * work.leaves + length work.begun
   pub first : work.first ≡ first_key work.begun
   pub height : work.levels.height + work.leaves ≤ page_total work.written.parts
+  pub shape : IsStacked work.leaves work.levels (page_total work.written.parts)
   pub some : 0 < page_total work.written.parts → 0 < length work.levels.waiting
   pub rising : AreRising (child_keys (rootless work.levels) ++ keys_of work.begun)
   pub children : AllByRecursion (λ row. row.child < page_total work.written.parts) (rootless work.levels)

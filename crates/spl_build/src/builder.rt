@@ -4,7 +4,8 @@ ghost use Rattle.spl_page.specs.LeafPage.{leaf_entry_length};
 ghost use Rattle.spl_page.specs.Tables.{table_length};
 ghost use Rattle.spl_port.specs.Port.{WritesOne};
 ghost use Rattle.spl_build.specs.Builder.{Adds, Builds, HasNoRoom, IfBuilt, Needs};
-ghost use Rattle.spl_build.specs.Counts.{OnlyWrites};
+ghost use Rattle.spl_branch.specs.Pages.{page_total};
+ghost use Rattle.spl_build.specs.Counts.{OnlyWrites, WritesPages};
 ghost use Rattle.spl_build.specs.Fault.{HasBuildCause};
 
 use crate::work::Work;
@@ -74,6 +75,7 @@ impl<P: Port> Builder<P> {
         ensures needs_same { result ≡ Ok Add.Needs → self.new ≡ self.old }
         ensures needs_counts { result ≡ Ok Add.Needs → P.counts port.new ≡ P.counts port.old }
         ensures done { result ≡ Ok Add.Done → Adds P.Seal.TELLS self.old self.new key.now message.now }
+        ensures pages { OnOk result (WritesPages (P.counts port.old) (P.counts port.new) (page_total self.old.parts) (page_total self.new.parts)) }
         ensures err { IfErr result (λ fault. self.new.stopped ≡ Some fault) }
         ensures counts { WritesOne (P.counts port.old) (P.counts port.new) }
         ensures cause { self.old.stopped ≡ None → HasBuildCause (P.counts port.old) (P.counts port.new) result }
@@ -112,8 +114,13 @@ impl<P: Port> Builder<P> {
         ensures stopped_counts { IfSome self.old.stopped (λ _. P.counts port.new ≡ P.counts port.old) }
 
         ensures empty { IfOk result (λ answer. (answer ≡ Finish.Empty) ↔ (self.old.entries ≡ 0)) }
+        ensures empty_counts { result ≡ Ok Finish.Empty → P.counts port.new ≡ P.counts port.old }
         ensures needs { result ≡ Ok Finish.Needs → Needs P.Seal.TELLS self.old self.new }
+        ensures needs_pages { result ≡ Ok Finish.Needs
+            → WritesPages (P.counts port.old) (P.counts port.new) (page_total self.old.parts) (page_total self.new.parts) }
         ensures built { IfOk result (λ answer. IfBuilt answer (λ branch. Builds P.Seal.TELLS self.old branch)) }
+        ensures built_pages { IfOk result (λ answer. IfBuilt answer (λ branch.
+            WritesPages (P.counts port.old) (P.counts port.new) (page_total self.old.parts) (page_total branch.parts))) }
         ensures over { IfOk result (λ answer. answer ≢ Finish.Needs → self.new.stage ≡ Stage.Over) }
         ensures err { IfErr result (λ fault. self.new.stopped ≡ Some fault) }
         ensures counts { OnlyWrites (P.counts port.old) (P.counts port.new) }

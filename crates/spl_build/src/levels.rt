@@ -79,6 +79,7 @@ impl Levels {
         ensures front { IfOk result (λ page. page ≡ take (length page) self.now.waiting) }
         ensures some { 0 < length self.now.waiting → IfOk result (λ page. 0 < length page) }
         ensures full { IfOk result (λ page. IsPacked page self.now.waiting) }
+        ensures many { IfOk result (λ page. length page < length self.now.waiting → 59 ≤ length page) }
     {
         let mut page = IndexWriter::new(*self.level.allocator());
         fill(&mut page, &self.level[self.packed..])?;
@@ -112,6 +113,7 @@ fn fill(page: &mut IndexWriter, entries: &[IndexEntry]) -> Result<(), NoMemory>
     ensures front { OnOk result (page.new ≡ take (length page.new) (index_rows_of entries.now)) }
     ensures some { 0 < length entries.now → OnOk result (0 < length page.new) }
     ensures full { OnOk result (IsPacked page.new (index_rows_of entries.now)) }
+    ensures many { OnOk result (length page.new < length entries.now → 59 ≤ length page.new) }
 {
     for entry in entries {
         if !page.fits(&entry.first) {

@@ -97,6 +97,7 @@ impl<P: Port> Pages<P> {
     /// Whether the next page has no extent left.
     pub(crate) fn is_full(&self) -> bool
         ensures value { IsTrue result ↔ IsFull self.now.extents self.now.parts }
+        ensures sound { AreParts self.now.number self.now.extents self.now.parts }
         ensures most { page_total self.now.parts ≤ 32 * length self.now.extents }
         ensures extents { length self.now.extents ≤ 65536 }
     {
@@ -132,6 +133,7 @@ impl<P: Port> Pages<P> {
     pub(crate) fn append(&mut self, port: &mut P, page: &PageBytes) -> Result<(), PortFault>
         requires { page_total self.old.parts < 32 * length self.old.extents }
         ensures ok { OnOk result (Appends P.Seal.TELLS self.old self.new page.now) }
+        ensures sound { OnOk result (AreParts self.new.number self.new.extents self.new.parts) }
         ensures counts { WritesOne (P.counts port.old) (P.counts port.new) }
         ensures ok_count { OnOk result ((P.counts port.new).writes ≡ (P.counts port.old).writes + 1) }
         ensures ok_faults { OnOk result ((P.counts port.new).faults ≡ (P.counts port.old).faults) }

@@ -3,11 +3,11 @@ ghost use Rattle.std.specs.Option.{option_or};
 ghost use Rattle.spl_message.specs.Key.{is_below};
 ghost use Rattle.spl_page.specs.LeafPage.{leaf_entry_length};
 ghost use Rattle.spl_page.specs.Tables.{table_length};
-ghost use Rattle.spl_branch.specs.Pages.{page_total};
+ghost use Rattle.spl_branch.specs.Pages.{AreParts, page_total};
 ghost use Rattle.spl_port.specs.Port.{MovesNone, WritesOne};
 ghost use Rattle.spl_build.specs.declared.stage.Stage.TheVariants.{Adding, Finishing};
-ghost use Rattle.spl_build.specs.Builder.{Adds, Builds, Keeps, Needs, building};
-ghost use Rattle.spl_build.specs.Counts.{OnlyWrites};
+ghost use Rattle.spl_build.specs.Builder.{Adds, Builds, Keeps, Needs, WritesLeaf, building};
+ghost use Rattle.spl_build.specs.Counts.{OnlyWrites, WritesPages};
 ghost use Rattle.spl_build.specs.Fault.{HasBuildCause};
 ghost use Rattle.spl_build.specs.Work.{IsAdding, IsFinishing, IsWork, NoRoom};
 ghost use Rattle.spl_build.specs.Written.{IsFull};
@@ -107,6 +107,8 @@ impl<P: Port> Work<P> {
         ensures adding { IfOk result (λ _. IsAdding self.new) }
         ensures done { result ≡ Ok Add.Done
             → Adds P.Seal.TELLS (building self.old Adding None) (building self.new Adding None) key.now message.now }
+        ensures pages { OnOk result (WritesPages (P.counts port.old) (P.counts port.new)
+            (page_total self.old.written.parts) (page_total self.new.written.parts)) }
         ensures counts { WritesOne (P.counts port.old) (P.counts port.new) }
         ensures cause { HasBuildCause (P.counts port.old) (P.counts port.new) result }
     {
@@ -142,6 +144,9 @@ impl<P: Port> Work<P> {
         ensures adding { OnOk result (IsAdding self.new) }
         ensures empty { OnOk result (self.new.begun ≡ []) }
         ensures kept { OnOk result (Keeps P.Seal.TELLS (building self.old Adding None) (building self.new Adding None)) }
+        ensures written { OnOk result (WritesLeaf P.Seal.TELLS (building self.old Adding None) (building self.new Adding None)) }
+        ensures pages { OnOk result (WritesPages (P.counts port.old) (P.counts port.new)
+            (page_total self.old.written.parts) (page_total self.new.written.parts)) }
         ensures counts { WritesOne (P.counts port.old) (P.counts port.new) }
         ensures cause { HasBuildCause (P.counts port.old) (P.counts port.new) result }
     {
@@ -165,20 +170,39 @@ impl<P: Port> Work<P> {
             × Needs P.Seal.TELLS (building self.old Finishing None) (building self.new Finishing None) }
         ensures built { IfOk result (λ answer. IfSome answer (λ branch.
             Builds P.Seal.TELLS (building self.old Finishing None) branch)) }
+        ensures needs_pages { result ≡ Ok None → WritesPages (P.counts port.old) (P.counts port.new)
+            (page_total self.old.written.parts) (page_total self.new.written.parts) }
+        ensures built_pages { IfOk result (λ answer. IfSome answer (λ branch. WritesPages (P.counts port.old) (P.counts port.new)
+            (page_total self.old.written.parts) (page_total branch.parts))) }
         ensures counts { OnlyWrites (P.counts port.old) (P.counts port.new) }
+        ensures cause { HasBuildCause (P.counts port.old) (P.counts port.new) result }
+    {
+        if !self.write_last_leaf(port)? || !self.write_indexes(port)? {
+            return Ok(None);
+        }
+        Ok(Some(self.build(port)?))
+    }
+
+    /// Writes the leaf page that is begun, where there is one. Says whether it is written.
+    fn write_last_leaf(&mut self, port: &mut P) -> Result<bool, BuildFault>
+        requires { IsFinishing self.old }
+        ensures finishing { OnOk result (IsFinishing self.new) }
+        ensures leaf { result ≡ Ok true → self.new.begun ≡ [] }
+        ensures needs { result ≡ Ok false → (0 < length self.new.begun) × IsFull self.new.written.extents self.new.written.parts }
+        ensures parts { result ≡ Ok false → AreParts self.new.written.number self.new.written.extents self.new.written.parts }
+        ensures kept { OnOk result (Keeps P.Seal.TELLS (building self.old Finishing None) (building self.new Finishing None)) }
+        ensures pages { OnOk result (WritesPages (P.counts port.old) (P.counts port.new)
+            (page_total self.old.written.parts) (page_total self.new.written.parts)) }
+        ensures counts { WritesOne (P.counts port.old) (P.counts port.new) }
         ensures cause { HasBuildCause (P.counts port.old) (P.counts port.new) result }
     {
         if self.leaf.len() > 0 {
             if self.pages.is_full() {
-                return Ok(None);
+                return Ok(false);
             }
             self.write_leaf(port)?;
         }
-        if self.write_indexes(port)? {
-            Ok(Some(self.build(port)?))
-        } else {
-            Ok(None)
-        }
+        Ok(true)
     }
 
     /// Writes the index pages that are left. Says whether all are written.
@@ -192,6 +216,9 @@ impl<P: Port> Work<P> {
         ensures written { result ≡ Ok true → length self.new.levels.waiting + length self.new.levels.above ≤ 1 }
         ensures needs { result ≡ Ok false → IsFull self.new.written.extents self.new.written.parts
             × (1 < length self.new.levels.waiting + length self.new.levels.above) }
+        ensures parts { result ≡ Ok false → AreParts self.new.written.number self.new.written.extents self.new.written.parts }
+        ensures pages { OnOk result (WritesPages (P.counts port.old) (P.counts port.new)
+            (page_total self.old.written.parts) (page_total self.new.written.parts)) }
         ensures counts { OnlyWrites (P.counts port.old) (P.counts port.new) }
         ensures cause { HasBuildCause (P.counts port.old) (P.counts port.new) result }
     {
@@ -214,6 +241,8 @@ impl<P: Port> Work<P> {
         ensures leaf { OnOk result (self.new.begun ≡ []) }
         ensures hashes { OnOk result (self.new.hashes ≡ self.old.hashes) }
         ensures total { OnOk result (page_total self.new.written.parts ≡ page_total self.old.written.parts + 1) }
+        ensures pages { OnOk result (WritesPages (P.counts port.old) (P.counts port.new)
+            (page_total self.old.written.parts) (page_total self.new.written.parts)) }
         ensures kept { OnOk result (Keeps P.Seal.TELLS (building self.old Finishing None) (building self.new Finishing None)) }
         ensures counts { WritesOne (P.counts port.old) (P.counts port.new) }
         ensures cause { HasBuildCause (P.counts port.old) (P.counts port.new) result }
@@ -234,7 +263,9 @@ impl<P: Port> Work<P> {
         requires some { 0 < length self.old.hashes }
         requires root { length self.old.levels.waiting + length self.old.levels.above ≤ 1 }
         ensures built { IfOk result (λ branch. Builds P.Seal.TELLS (building self.old Finishing None) branch) }
+        ensures parts { IfOk result (λ branch. branch.parts ≡ self.old.written.parts) }
         ensures counts { MovesNone (P.counts port.old) (P.counts port.new) }
+        ensures ok_faults { OnOk result ((P.counts port.new).faults ≡ (P.counts port.old).faults) }
         ensures cause { HasBuildCause (P.counts port.old) (P.counts port.new) result }
     {
         let number = self.pages.number();

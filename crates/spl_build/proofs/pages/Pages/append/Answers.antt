@@ -24,3 +24,9 @@ returns-clause-ok g c =
     appended _ _ _ _ _ _ _ _ _ _ c.args.page.now c.bytes.result.now
     c.open.ensures.number c.open.ensures.extents c.in_ok-append.ensures.ok c.bytes.ensures c.in_ok-begun.ensures.ok
     _ _ c.self.view_is (ap (λ b. map g.P.Seal.Seal.means c.self.inside.front.seals.items ++ begun_part (option_map (λ b. (g.P.Port.drafts b.draft, b.pages)) b)) c.take.ensures.value) c.self.invariant.parts
+
+pub returns-clause-sound : goal.returns-clause-sound
+returns-clause-sound g c =
+    let grown = pages_grown _ _ _ _ _ _ _ _ _ _ c.args.page.now c.bytes.result.now
+    c.open.ensures.number c.open.ensures.extents c.in_ok-append.ensures.ok c.bytes.ensures c.in_ok-begun.ensures.ok c.self.invariant.most in
+    grown.parts

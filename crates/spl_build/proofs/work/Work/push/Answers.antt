@@ -1,5 +1,7 @@
-use Rattle.std.proofs.Common.{◌≡◌, true, None, IfSome, refl, subst, sym}
+use Rattle.std.proofs.Common.{◌≡◌, ◌+◌, ◌≤◌, true, None, IfSome, refl, subst, sym}
 use Rattle.spl_message.specs.Key.{is_below}
+use Rattle.spl_page.specs.LeafPage.{leaf_entry_length}
+use Rattle.spl_page.specs.Tables.{table_length}
 use Rattle.spl_build.specs.declared.stage.Stage.TheVariants.{Adding}
 use Rattle.spl_build.specs.Work.{IsAdding, WorkState}
 use Rattle.spl_build.proofs.Steps.{push_adds, push_done, push_rises}
@@ -21,3 +23,4 @@ pub returns-clause-done : goal.returns-clause-done
 returns-clause-done g c =
     push_done _ c.args.key.now c.args.message.now _ c.set_first.new.first _ _ _ c.in_ok-push.ensures.ok c.in_ok-push-2.ensures.hashes c.in_ok-push-2.ensures.cuts c.in_ok-push-2.ensures.last
     g.P.Seal.Seal.TELLS c.args.self.now Adding None c.self.view_is refl
+    (subst (λ (w : WorkState). table_length w.begun + leaf_entry_length c.args.key.now c.args.message.now ≤ 4096) (sym c.self.view_is) c.requires.fits)

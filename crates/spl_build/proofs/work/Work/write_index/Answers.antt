@@ -1,8 +1,8 @@
-use Rattle.std.proofs.Common.{◌<◌, ◌+◌, ◌*◌, length, None, subst, sym, arith}
+use Rattle.std.proofs.Common.{◌<◌, ◌+◌, ◌*◌, length, None, ap, subst, sym, arith}
 use Rattle.spl_branch.specs.Pages.{page_total}
 use Rattle.spl_build.specs.declared.stage.Stage.TheVariants.{Finishing}
 use Rattle.spl_build.specs.Work.{IsWork, WorkState}
-use Rattle.spl_build.proofs.Steps.{children_below, height_fits, index_keeps, index_writes, some_wait, waiting_rises}
+use Rattle.spl_build.proofs.Steps.{children_below, height_fits, index_keeps, index_writes, page_gained, some_wait, waiting_rises}
 use Rattle.spl_build.proofs.work.Work.write_index.Goals as goal
 
 pub pack-requires : goal.pack-requires
@@ -38,10 +38,14 @@ returns-clause-sound g c =
     let sound = subst IsWork (sym c.self.view_is) c.requires.sound in
     let roots = subst (λ (w : WorkState). 1 < length w.levels.waiting + length w.levels.above) (sym c.self.view_is) c.requires.roots in
     index_writes _ sound _ _ _ c.in_ok-index.index c.next-at.result c.len-children.result _ c.in_ok-append.ensures.ok c.next-at.ensures.place c.in_ok-page.ensures.kind
-    c.in_ok-index.ensures.front (c.in_ok-index.ensures.some (some_wait _ sound roots)) c.in_ok-page.ensures.page c.in_ok-page.ensures.children c.len-children.ensures.value c.in_ok-adopt.ensures
+    c.in_ok-index.ensures.front (c.in_ok-index.ensures.some (some_wait _ sound roots)) roots (omega (arith, c.len-children.ensures.value, c.len-children.ensures.most)) c.in_ok-index.ensures.many c.in_ok-page.ensures.page c.in_ok-page.ensures.children c.len-children.ensures.value c.in_ok-adopt.ensures
 
 pub returns-clause-kept : goal.returns-clause-kept
 returns-clause-kept g c =
     let sound = subst IsWork (sym c.self.view_is) c.requires.sound in
     index_keeps _ sound _ _ _ c.in_ok-index.index c.next-at.result c.len-children.result c.adopt.new.self c.in_ok-append.ensures.ok c.next-at.ensures.place c.in_ok-page.ensures.kind
     c.args.self.now Finishing None c.self.view_is
+
+pub returns-clause-pages : goal.returns-clause-pages
+returns-clause-pages g c =
+    page_gained _ _ _ _ c.args.self.now _ _ (ap (λ (w : WorkState). w.written) c.self.view_is) c.in_ok-append.ensures.ok c.in_ok-append.ensures.ok_count c.in_ok-append.ensures.ok_faults
