@@ -10,7 +10,8 @@ use Rattle.spl_numbers.proofs.LevelLemmas.{size_of-set}
 use Rattle.spl_numbers.proofs.ListedLemmas.{none_has}
 use Rattle.spl_extent.specs.declared.owner.Owner.{Owner}
 use Rattle.spl_extent.specs.declared.owner.Owner.TheVariants.{Free, Granted, Held}
-use Rattle.spl_extent.specs.declared.pool.TheConstants.{ACTORS, EXTENTS}
+use Rattle.spl_base.specs.declared.TheConstants.{ACTORS}
+use Rattle.spl_extent.specs.declared.pool.TheConstants.{EXTENTS}
 use Rattle.spl_extent.specs.Pool.{is_free, is_granted, granted_to, without_grants}
 use Rattle.spl_extent.specs.Spare.{IsSpare}
 use Rattle.spl_extent.specs.Kept.{IsKept}

@@ -1,7 +1,7 @@
 -- How a pool keeps the numbers of its free extents, and those of each actor's.
 use Rattle.std.specs.Prelude.{◌≡◌, ℕ, ◌<◌, List, [], Bool, length, slice_index_or}
 use Rattle.spl_extent.specs.declared.owner.Owner.{Owner}
-use Rattle.spl_extent.specs.declared.pool.TheConstants.{ACTORS}
+use Rattle.spl_base.specs.declared.TheConstants.{ACTORS}
 use Rattle.spl_extent.specs.Pool.{granted_to}
 use Rattle.spl_extent.specs.Spare.{IsSpare}
 

@@ -10,4 +10,4 @@ mod pool;
 mod tests;
 
 pub use owner::Owner;
-pub use pool::{ACTORS, EXTENTS, Pool};
+pub use pool::{EXTENTS, Pool};

@@ -1,20 +1,18 @@
 ghost use Rattle.std.specs.Prelude.{◌≡◌, ◌<◌, ◌≤◌, ◌↔◌, length, slice_get, slice_set, replicate, Some, IsTrue, IsNone, IfSome, IfNone, IfOk};
+ghost use Rattle.spl_base.specs.declared.TheConstants.{ACTORS};
 ghost use Rattle.spl_extent.specs.Pool.{free_count, granted_to, without_grants};
 ghost use Rattle.spl_numbers.specs.Numbers.{size_of, ListsEach};
 
 use crate::owner::Owner;
-use spl_base::NoMemory;
+use spl_base::{ACTORS, NoMemory};
 use spl_numbers::Numbers;
 use std::alloc::Global;
 use std::marker::Model;
 
-/// How many actors there are.
-pub const ACTORS: u32 = 32;
-
 /// A store has at most this many extents.
 pub const EXTENTS: u32 = 65_536;
 
-const _: () = prove!(ACTORS == 32 && EXTENTS == 65_536);
+const _: () = prove!(EXTENTS == 65_536);
 
 /// The owner of every extent. In a clause it is the list of the owners, by the extents'
 /// numbers, so each extent is exactly one of free, granted to one actor, or held by one branch.

@@ -43,8 +43,10 @@ fn three_grants_are_given_back_and_the_other_actors_stay(rt: HostRuntime) -> Res
     pool.give_back_all(0);
     assert_eq!(rt; (pool.granted(0), pool.granted(1), pool.free()), (0, 1, 5));
     for extent in extents {
+        assert!(rt; extent < pool.extents());
         assert_eq!(rt; pool.owner(extent), Owner::Free);
     }
+    assert!(rt; other < pool.extents());
     assert_eq!(rt; pool.owner(other), Owner::Granted { actor: 1 });
     Ok(())
 }

@@ -92,6 +92,12 @@ fn a_write_stands_alone_until_its_actor_leaves(rt: HostRuntime) -> Result<(), Fa
     Ok(())
 }
 
+/// For whom a read of node 1, a claim of node 2 and a lock of node 3 would be refused.
+fn forbidding(rt: &impl Abort, holds: &Holds) -> (Option<u32>, Option<u32>, Option<u32>) {
+    assert!(rt; holds.nodes() == 4);
+    (holds.writer(1), holds.claimant(2), holds.first_reader(3))
+}
+
 #[test]
 fn two_reads_and_a_claim_are_counted_until_their_actor_leaves(rt: HostRuntime) -> Result<(), Fail> {
     let mut holds = Holds::new(rt.alloc())?;
@@ -123,16 +129,10 @@ fn two_reads_and_a_claim_are_counted_until_their_actor_leaves(rt: HostRuntime) -
         }
     );
     assert_eq!(rt; holds.counts(8), others);
-    assert_eq!(rt;
-        (holds.writer(1), holds.claimant(2), holds.first_reader(3)),
-        (Some(8), Some(7), Some(7))
-    );
+    assert_eq!(rt; forbidding(&rt, &holds), (Some(8), Some(7), Some(7)));
     holds.leave_all(7);
     assert_eq!(rt; holds.counts(7), Counts::default());
     assert_eq!(rt; holds.counts(8), others);
-    assert_eq!(rt;
-        (holds.writer(1), holds.claimant(2), holds.first_reader(3)),
-        (Some(8), None, Some(8))
-    );
+    assert_eq!(rt; forbidding(&rt, &holds), (Some(8), None, Some(8)));
     Ok(())
 }

@@ -48,6 +48,11 @@ module _ {B : Type 0} where
     pub this_number : held_at new number ≡ held
     pub other_numbers : (other : ℕ) → other ≢ number → held_at new other ≡ held_at old other
 
+  -- new counts so many at the number, and at every other number as many as old
+  pub record CountsAt (old new : Published B) (number count : ℕ) : Type 0 where
+    pub this_number : count_at new number ≡ count
+    pub other_numbers : (other : ℕ) → other ≢ number → count_at new other ≡ count_at old other
+
   -- the branch stands at its own number, with a count above 0
   abbrev pub IsCounted : (B → ℕ) → ℕ → ℕ × B → Type 0
   IsCounted number_of number held = (0 < held.0) × (number_of held.1 ≡ number)

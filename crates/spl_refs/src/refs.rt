@@ -1,6 +1,6 @@
-ghost use Rattle.std.specs.Prelude.{◌≡◌, ℕ, ◌<◌, ◌^◌, ◌↔◌, Some, None, IsSome, IfSome, OnOk, OnErr};
+ghost use Rattle.std.specs.Prelude.{◌≡◌, ℕ, ◌+◌, ◌-◌, ◌<◌, ◌^◌, ◌↔◌, Some, None, IsSome, IfSome, OnOk, OnErr};
 ghost use Rattle.std.specs.Option.{option_map};
-ghost use Rattle.spl_refs.specs.Refs.{held_at, count_at, branch_at, one_more, one_less, last_of, SetsAt};
+ghost use Rattle.spl_refs.specs.Refs.{held_at, count_at, branch_at, one_more, one_less, last_of, SetsAt, CountsAt};
 
 use crate::counted::Counted;
 use spl_message::{Content, NoMemory};
@@ -43,6 +43,7 @@ impl<B: Content> Refs<B> {
     pub fn publish(&mut self, branch: Arc<B>) -> Result<(), NoMemory>
         requires new_number { held_at self.old (B.number branch.value) ≡ None }
         ensures ok { OnOk result (SetsAt self.old self.new (B.number branch.value) (Some (1, branch.value))) }
+        ensures counts { OnOk result (CountsAt self.old self.new (B.number branch.value) 1) }
         ensures err { OnErr result (self.new ≡ self.old) }
     {
         let number = branch.number();
@@ -50,24 +51,29 @@ impl<B: Content> Refs<B> {
         Ok(())
     }
 
-    /// Counts one more that names the branch.
+    /// Adds a reference to the branch.
     #[tactic(auto, using(crate::proofs::Published::held_in))]
     pub fn hold(&mut self, number: u64)
         requires there { IsSome (held_at self.old number) }
         requires limit { count_at self.old number < 2 ^ 63 }
-        ensures { SetsAt self.old self.new number (one_more (held_at self.old number)) }
+        ensures cell { SetsAt self.old self.new number (one_more (held_at self.old number)) }
+        ensures counts { CountsAt self.old self.new number (count_at self.old number + 1) }
+        ensures branches { (other : ℕ) → branch_at self.new other ≡ branch_at self.old other }
     {
         let counted = self.branches.get_mut(&number).unwrap();
         counted.count += 1;
     }
 
-    /// Counts one less that names the branch, and gives the branch out when that was the last.
+    /// Drops a reference to the branch. Returns the branch if it was the last.
     #[tactic(auto, using(crate::proofs::Published::held_in))]
     pub fn let_go(&mut self, number: u64) -> Option<Arc<B>>
         requires { IsSome (held_at self.old number) }
         ensures last { option_map (λ branch. branch.value) result ≡ last_of (held_at self.old number) }
         ensures number { IfSome result (λ branch. B.number branch.value ≡ number) }
-        ensures count { SetsAt self.old self.new number (one_less (held_at self.old number)) }
+        ensures cell { SetsAt self.old self.new number (one_less (held_at self.old number)) }
+        ensures counts { CountsAt self.old self.new number (count_at self.old number - 1) }
+        ensures out { IsSome result ↔ (count_at self.old number ≡ 1) }
+        ensures branches { (other : ℕ) → 0 < count_at self.new other → branch_at self.new other ≡ branch_at self.old other }
     {
         let counted = self.branches.get_mut(&number)?;
         if counted.count != 1 {

@@ -1,8 +1,8 @@
 ghost use Rattle.std.specs.Prelude.{ℕ, List, [], false};
-ghost use Rattle.spl_message.specs.Table.{Table};
+ghost use Rattle.spl_message.specs.Table.{as_table};
 
 use crate::Refs;
-use spl_message::{Content, Key};
+use spl_message::{Content, HashedKey, Key};
 use std::sync::Arc;
 use std::test::Fail;
 
@@ -15,7 +15,7 @@ struct Bare {
 impl Content for Bare {
     ghost TELLS = { false };
 
-    ghost table = { λ _. [] };
+    ghost table = { λ _. as_table [] };
 
     ghost number = { λ bare. bare.number };
 
@@ -43,7 +43,7 @@ impl Content for Bare {
         &[]
     }
 
-    fn reach(&self, _key: &Key) -> u32 {
+    fn reach(&self, _key: &HashedKey) -> u32 {
         0
     }
 }
