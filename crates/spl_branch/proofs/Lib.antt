@@ -6,6 +6,7 @@ pub mod GrowingParts
 pub mod GrowingTable
 pub mod GrowingTree
 pub mod Joined
+pub mod LeafPages
 pub mod PartPages
 pub mod Paths
 pub mod Telling

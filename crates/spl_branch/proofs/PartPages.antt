@@ -7,7 +7,7 @@ use Rattle.std.proofs.lemmas.List.{length-append, length-map, length-replicate, 
 use Rattle.std.proofs.lemmas.Option.{slice_get-map, slice_get_read, slice_get_within}
 use Rattle.spl_port.specs.Seal.{Sealed, page_count, place}
 use Rattle.spl_branch.specs.Branch.{Branch, IsBranch}
-use Rattle.spl_branch.specs.Pages.{AreParts, page_total}
+use Rattle.spl_branch.specs.Pages.{AreParts, kinds_of, page_total}
 use Rattle.spl_branch.proofs.GrowingParts.{parts_most}
 
 pub slice_get-append_left : {X : Type 0} (xs ys : List X) (i : ℕ) → i < length xs → slice_get (xs ++ ys) i ≡ slice_get xs i
@@ -114,6 +114,12 @@ are-32 number extents parts are = record { most = λ j part at. (are.each j part
 pub page_total_is : (number : ℕ) (extents : List ℕ) (parts : List Sealed) (n : ℕ) (last : Sealed) → AreParts number extents parts
     → length parts ≡ suc n → slice_get parts n ≡ Some last → page_total parts ≡ n * 32 + page_count last
 page_total_is number extents parts n last are len at = total-32 (λ part. part.leaves) parts n last (are-32 number extents parts are) len at
+
+-- the kind of a page of a part
+pub kind_at : (number : ℕ) (extents : List ℕ) (parts : List Sealed) (page : ℕ) (part : Sealed) → AreParts number extents parts → slice_get parts (page / 32) ≡ Some part
+    → page % 32 < page_count part → slice_get (kinds_of parts) page ≡ slice_get part.leaves (page % 32)
+kind_at number extents parts page part are there within =
+    at-32 (λ part. part.leaves) parts (page / 32) (page % 32) page part (are-32 number extents parts are) there within (omega arith)
 
 -- there is a page, so there is a part
 pub some_pages : (branch : Branch) → IsBranch branch → 0 < page_total branch.parts

@@ -1,5 +1,5 @@
 -- A lookup on its way down, on every device: the pages that the pager gave lead from the root to where it stands.
-use Rattle.std.proofs.Common.{◌≡◌, ℕ, ◌+◌, ◌-◌, ◌<◌, ◌≤◌, List, [], ◌∷◌, Option, refl, sym, ◌∙◌, subst, arith}
+use Rattle.std.proofs.Common.{◌≡◌, ℕ, ◌+◌, ◌-◌, ◌<◌, ◌≤◌, List, [], ◌∷◌, Option, refl, ◌∙◌, subst, arith}
 use Rattle.spl_message.specs.declared.message.Message.{Message}
 use Rattle.spl_port.specs.Counts.{Counts}
 use Rattle.spl_port.specs.Port.{ReadsOne}

@@ -7,7 +7,6 @@ use Rattle.std.proofs.lemmas.Option.{slice_get_within}
 use Rattle.spl_message.specs.declared.message.Message.{Message}
 use Rattle.spl_message.specs.Entries.{message_in}
 use Rattle.spl_port.specs.declared.at.At.{At}
-use Rattle.spl_port.specs.declared.damaged.Damaged.{Damaged as Damage}
 use Rattle.spl_port.specs.Counts.{Counts, Shown}
 use Rattle.spl_port.specs.Page.{page_fault}
 use Rattle.spl_port.specs.Seal.{Allows, Sealed, page_count, place}
@@ -15,14 +14,13 @@ use Rattle.spl_pager.specs.declared.fault.FetchFault.{FetchFault}
 use Rattle.spl_pager.specs.declared.fault.FetchFault.TheVariants.{Failed, Damaged as DamagedPage, NoMemory as NoMemoryForPage}
 use Rattle.spl_pager.specs.Fetching.{HasFetchCause}
 use Rattle.spl_page.specs.Tables.{child_for, children, leaf_table}
-use Rattle.spl_branch.specs.declared.visit.Visit.{Visit}
 use Rattle.spl_branch.specs.declared.visit.Visit.TheVariants.{Found}
 use Rattle.spl_branch.specs.Branch.{Branch, IsBranch}
 use Rattle.spl_branch.specs.Faults.{of_fetch}
 use Rattle.spl_branch.specs.Pages.{AreTold, page_total, shown_pages}
-use Rattle.spl_branch.specs.Path.{Gives, IsVisit}
+use Rattle.spl_branch.specs.Path.{Gives, IsGiven}
 use Rattle.spl_branch.specs.Reading.{IsPlaceOf}
-use Rattle.spl_branch.specs.Visiting.{GoesBelow, HasVisitCause, by_child, visit_of}
+use Rattle.spl_branch.specs.Visiting.{HasVisitCause, by_child, visit_of}
 use Rattle.spl_branch.proofs.PartPages.{part_at, seal_part}
 use Rattle.spl_branch.proofs.ToldPages.{read_is}
 
@@ -84,7 +82,7 @@ module _ (branch : Branch) (page : ℕ) (part : Sealed) (at : At) (bytes : List 
       let there : slice_get branch.parts (at.page / 32) ≡ Some part = ap (λ (n : ℕ). slice_get branch.parts (n / 32)) own_number ∙ is.there in
       rw there (within_part, place_in_part)
 
-  told_is : Allows part (at.page % 32) bytes → AreTold branch.parts → slice_get (shown_pages branch.parts) page ≡ Some (record { at = at; bytes = bytes })
+  pub told_is : Allows part (at.page % 32) bytes → AreTold branch.parts → slice_get (shown_pages branch.parts) page ≡ Some (record { at = at; bytes = bytes })
   told_is allows told =
       read_is branch.number branch.extents branch.parts is.is.parts told page part bytes is.there is.within (subst (λ (r : ℕ). Allows part r bytes) own_rest allows)
       ∙ ap (λ at. Some (record { at = at; bytes = bytes })) (sym place_is)
@@ -94,7 +92,7 @@ module _ (branch : Branch) (page : ℕ) (part : Sealed) (at : At) (bytes : List 
       → IsSomeAnd (slice_get (shown_pages branch.parts) page) P
   told_page P allows holds told = rw (told_is allows told) holds
 
-some_and : {X : Type 0} (P : X → Type 0) (o : Option X) → IsSomeAnd o P → (x : X) × (o ≡ Some x) × P x
+pub some_and : {X : Type 0} (P : X → Type 0) (o : Option X) → IsSomeAnd o P → (x : X) × (o ≡ Some x) × P x
 some_and P None is = absurd is
 some_and P (Some x) is = (x, refl, is)
 
@@ -112,26 +110,16 @@ module _ (branch : Branch) (page : ℕ) (part : Sealed) (at : At) (is : IsPage b
         told = told_page branch page part at last.0.bytes is place_is (λ shown. page_fault shown.at shown.bytes ≡ Some damage.why) last.2.2 last.2.1;
       }
 
-  -- what the page that was given says
-  pub given : (gives : Gives) (key : List ℕ) (visit : Visit) (shown : Shown) → shown.at ≡ at → gives before after shown → page_fault shown.at shown.bytes ≡ None
-      → visit ≡ visit_of shown key → IsVisit gives branch page key before after visit
-  given gives key visit shown here shows sound says = record {
-    shown = shown;
-    given = record {
-      shown = shows;
-      place = subst (IsPlaceOf branch.parts) (sym here) (its_place branch page part at [] is place_is);
-      number = ap (λ at. at.page) here ∙ own_number branch page part at [] is place_is;
-      sound = sound;
-    };
-    says = says;
+  -- the page that was given is the branch's
+  pub given : (gives : Gives) (shown : Shown) → shown.at ≡ at → gives before after shown → page_fault shown.at shown.bytes ≡ None
+      → IsGiven gives branch page before (record { shown = shown; after = after })
+  given gives shown here shows sound = record {
+    shown = shows;
+    place = subst (IsPlaceOf branch.parts) (sym here) (its_place branch page part at [] is place_is);
+    number = ap (λ at. at.page) here ∙ own_number branch page part at [] is place_is;
+    sound = sound;
   }
 
-  pub told_visit : (key : List ℕ) (visit : Visit) (shown : Shown) → shown.at ≡ at → Allows part (at.page % 32) shown.bytes → visit ≡ visit_of shown key → AreTold branch.parts
-      → IsSomeAnd (slice_get (shown_pages branch.parts) page) (λ shown. visit ≡ visit_of shown key)
-  told_visit key visit shown here allows says =
-      told_page branch page part at shown.bytes is place_is (λ shown. visit ≡ visit_of shown key) allows
-      (subst (λ at. visit ≡ visit_of (record { at = at; bytes = shown.bytes }) key) here says)
-
-  pub below_page : (visit : Visit) (shown : Shown) → shown.at ≡ at → GoesBelow shown.at.page visit → GoesBelow page visit
-  below_page visit shown here below =
-      subst (λ (page : ℕ). GoesBelow page visit) (ap (λ at. at.page) here ∙ own_number branch page part at [] is place_is) below
+  pub told_given : (shown : Shown) → shown.at ≡ at → Allows part (at.page % 32) shown.bytes → AreTold branch.parts → slice_get (shown_pages branch.parts) page ≡ Some shown
+  told_given shown here allows told =
+      told_is branch page part at shown.bytes is place_is allows told ∙ ap (λ at. Some (record { at = at; bytes = shown.bytes })) (sym here)

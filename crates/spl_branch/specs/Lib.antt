@@ -1,6 +1,7 @@
 pub mod Branch
 pub mod Faults
 pub mod Last
+pub mod Leaves
 pub mod Pages
 pub mod Path
 pub mod Reading

@@ -14,7 +14,7 @@ use crate::branch::{Branch, is_admitted};
 use crate::visit::Visit;
 use spl_message::{HashedKey, Message};
 use spl_pager::Pager;
-use spl_port::{EXTENT_PAGES, Port, Seal};
+use spl_port::{Port, Seal};
 
 impl<S: Seal> Branch<S> {
     /// What the page says of the key.
@@ -34,10 +34,8 @@ impl<S: Seal> Branch<S> {
         ensures faults { OnOk result ((P.counts port.new).faults ≡ (P.counts port.old).faults) }
         ensures cause { IfErr result (HasVisitCause self.now page (P.counts port.old) (P.counts port.new)) }
     {
-        let seal = &self.parts.seals[(page / EXTENT_PAGES) as usize];
-        let at = seal.at(page % EXTENT_PAGES);
+        let page = self.page(port, pager, page)?;
         let alloc = *self.parts.extents.allocator();
-        let page = pager.fetch(alloc, port, seal, at)?;
         Ok(Visit::read(alloc, &page, key)?)
     }
 

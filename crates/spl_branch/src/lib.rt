@@ -4,6 +4,7 @@
 mod branch;
 mod fault;
 mod get;
+mod pages;
 mod visit;
 
 pub use branch::{Branch, Parts};

@@ -1,5 +1,4 @@
-ghost use Rattle.std.specs.Prelude.{◌≡◌, None, IfOk};
-ghost use Rattle.spl_port.specs.Page.{page_fault};
+ghost use Rattle.std.specs.Prelude.{◌≡◌, IfOk};
 ghost use Rattle.spl_page.specs.AnyPage.{shown_of};
 ghost use Rattle.spl_branch.specs.Visiting.{GoesBelow, visit_of};
 
@@ -21,7 +20,6 @@ impl Visit {
     pub(crate) fn read(alloc: Global, page: &AnyPage, key: &HashedKey) -> Result<Visit, NoMemory>
         ensures ok { IfOk result (λ visit. visit ≡ visit_of (shown_of page.now) key.now) }
         ensures below { IfOk result (GoesBelow (shown_of page.now).at.page) }
-        ensures sound { page_fault (shown_of page.now).at (shown_of page.now).bytes ≡ None }
     {
         // A page is of the kind that its place asks for.
         let _at = page.at();

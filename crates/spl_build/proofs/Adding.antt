@@ -7,13 +7,14 @@ use Rattle.std.proofs.lemmas.Grind.{replicate_next}
 use Rattle.std.proofs.lemmas.List.{length-map, length_push, map_push}
 use Rattle.spl_message.specs.declared.message.Message.{Message}
 use Rattle.spl_message.specs.Key.{AreRising, is_below}
-use Rattle.spl_message.specs.Table.{Table, IsTable, cuts_of}
+use Rattle.spl_message.specs.Entries.{Entries, AreEntries}
+use Rattle.spl_message.specs.Table.{as_table, cuts_of}
 use Rattle.spl_message.proofs.Rising.{one_rising}
 use Rattle.spl_port.specs.Counts.{Shown}
 use Rattle.spl_port.specs.Page.{IndexRow, leaf_fault}
 use Rattle.spl_port.specs.Seal.{begins_leaf}
 use Rattle.spl_page.specs.Tables.{child_keys, leaf_table}
-use Rattle.spl_quotient.specs.Fnv.{fnv_of}
+use Rattle.spl_message.specs.Fnv.{fnv_of}
 use Rattle.spl_branch.specs.Branch.{leaf_entries}
 use Rattle.spl_branch.specs.Pages.{AreTold, kinds_of, page_total, shown_pages}
 use Rattle.spl_branch.specs.Tree.{first_key}
@@ -100,7 +101,7 @@ module _ (work : WorkState) (key : List ℕ) (message : Message) (first : Option
         cuts =
             ap₂ (λ (cuts : List (List ℕ)) (n : ℕ). cuts_with cuts n key) told.cuts count
             ∙ sym (cuts_grow (table_in work.written.parts work.begun) key message)
-            ∙ ap cuts_of (sym table_more);
+            ∙ ap (λ (t : Entries). cuts_of (as_table t)) (sym table_more);
         grove = told.grove;
       }
 
@@ -141,7 +142,7 @@ with_leaf work written key = record work {
   levels = record work.levels { waiting = work.levels.waiting ++ record { child = page_total work.written.parts; key = key } ∷ [] };
 }
 
-keys_split : (table : Table) (key : List ℕ) → first_key table ≡ Some key → keys_of table ≡ key ∷ drop 1 (keys_of table)
+keys_split : (table : Entries) (key : List ℕ) → first_key table ≡ Some key → keys_of table ≡ key ∷ drop 1 (keys_of table)
 keys_split [] key is = cc
 keys_split (entry ∷ table) key is = let same : entry.0 ≡ key = cc in ap (λ (k : List ℕ). k ∷ keys_of table) same
 
@@ -161,7 +162,7 @@ module _ (tells : Bool) (work : WorkState) (written : Written) (bytes key : List
       append-nil (leaf_entries (shown_pages written.parts))
       ∙ ap leaf_entries (shown_more told)
       ∙ leaf_entries_leaf (shown_pages work.written.parts) (next_place work.written true) bytes refl
-      ∙ ap (λ (t : Table). leaf_entries (shown_pages work.written.parts) ++ t) table
+      ∙ ap (λ (t : Entries). leaf_entries (shown_pages work.written.parts) ++ t) table
 
   begun_first : first_key work.begun ≡ Some key
   begun_first = sym adding.sound.first ∙ first_is
@@ -196,9 +197,9 @@ module _ (tells : Bool) (work : WorkState) (written : Written) (bytes key : List
       let grown = grove_leaf pages (next_place work.written true) bytes key work.levels.waiting refl sound (ap first_key table ∙ begun_first) plain in
       let N : List Shown → ℕ → List IndexRow → ℕ → Type 0 = λ ps n over h. IsGrove ps (record { waiting = work.levels.waiting ++ record { child = n; key = key } ∷ []; above = over; height = h }) in
       record {
-        order = subst IsTable (sym same) told.order;
-        hashes = told.hashes ∙ ap (λ (t : Table). map fnv_of (keys_of t)) (sym same);
-        cuts = told.cuts ∙ ap cuts_of (sym same);
+        order = subst AreEntries (sym same) told.order;
+        hashes = told.hashes ∙ ap (λ (t : Entries). map fnv_of (keys_of t)) (sym same);
+        cuts = told.cuts ∙ ap (λ (t : Entries). cuts_of (as_table t)) (sym same);
         grove =
             subst (λ (ps : List Shown). N ps (page_total work.written.parts) work.levels.above work.levels.height) (sym (shown_more are_told))
             (subst (λ (n : ℕ). N (pages ++ record { at = next_place work.written true; bytes = bytes } ∷ []) n work.levels.above work.levels.height) count
@@ -246,5 +247,5 @@ module _ (tells : Bool) (work : WorkState) (written : Written) (bytes key : List
             let short = rising_without (child_keys work.levels.waiting) key (drop 1 (keys_of work.begun)) (next ∷ []) long in
             subst AreRising (sym (ap (λ (ks : List (List ℕ)). ks ++ next ∷ []) new_keys ∙ append_assoc (child_keys work.levels.waiting) (key ∷ []) (next ∷ []))) short;
         told = λ are_told next over.
-            subst (λ (t : Table). AreRising (keys_of t ++ next ∷ [])) (sym (leaf_table_same are_told)) (adding.told (appends.back are_told) next over);
+            subst (λ (t : Entries). AreRising (keys_of t ++ next ∷ [])) (sym (leaf_table_same are_told)) (adding.told (appends.back are_told) next over);
       }

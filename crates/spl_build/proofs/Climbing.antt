@@ -1,5 +1,6 @@
 -- What was added stays while the pages that are left are written.
-use Rattle.std.proofs.Common.{◌≡◌, ℕ, ◌≤◌, Bool, List, [], None, refl, ◌∙◌, subst, arith}
+use Rattle.std.proofs.Common.{◌≡◌, ℕ, ◌≤◌, Bool, List, [], None, refl, ap, ◌∙◌, subst, arith}
+use Rattle.spl_message.specs.Table.{as_table}
 use Rattle.spl_port.specs.Counts.{Counts, Rose}
 use Rattle.spl_port.specs.Port.{MovesNone, WritesOne}
 use Rattle.spl_branch.specs.Branch.{Branch}
@@ -77,7 +78,7 @@ built_since tells old mid branch kept builds = record {
   filter = subst (λ (hashes : List ℕ). IsFilterOf hashes branch.filter) kept.hashes builds.filter;
   sound = builds.sound;
   compact = builds.compact;
-  table = λ is. builds.table is ∙ kept.table is;
+  table = λ is. builds.table is ∙ ap as_table (kept.table is);
 }
 
 -- a leaf page and then index pages were written

@@ -4,13 +4,15 @@ use Rattle.std.specs.Prelude.{Contains}
 use Rattle.std.specs.List.{last_or}
 use Rattle.std.specs.Map.{keys_of}
 use Rattle.std.proofs.lemmas.List.{length-map}
-use Rattle.spl_message.specs.Table.{Table, IsTable, cuts_of}
+use Rattle.spl_message.specs.Entries.{Entries, AreEntries}
+use Rattle.spl_message.specs.Table.{as_table, cuts_of}
 use Rattle.spl_port.specs.Counts.{Shown}
 use Rattle.spl_port.specs.Page.{IndexRow}
 use Rattle.spl_port.specs.Seal.{Sealed}
 use Rattle.spl_quotient.specs.Exponent.{IsExponent}
 use Rattle.spl_quotient.specs.Filter.{Filter}
-use Rattle.spl_quotient.specs.Fnv.{fingerprint_of, fnv_of, print_of}
+use Rattle.spl_message.specs.Fnv.{fnv_of}
+use Rattle.spl_quotient.specs.Fnv.{fingerprint_of, print_of}
 use Rattle.spl_quotient.proofs.Hashes.{map-fingerprint_of}
 use Rattle.spl_branch.specs.Branch.{Branch, HoldsTable, IsBranch, leaf_entries}
 use Rattle.spl_branch.specs.Pages.{AreParts, page_total, shown_pages}
@@ -30,7 +32,7 @@ one_root (row ∷ other ∷ waiting) above some few = absurd (omega arith)
 module _ (work : WorkState) (sound : IsWork work) (parts : AreParts work.written.number work.written.extents work.written.parts) (few : length work.written.extents ≤ 65536) where
   -- so few keys that a filter may be made of them
   pub few_hashes : work.begun ≡ [] → length work.hashes ≤ 2 ^ 51
-  few_hashes leaf = omega (arith, sound.most, ap (λ (t : Table). length t) leaf, sound.height, total_most work.written.number work.written.extents work.written.parts parts, few)
+  few_hashes leaf = omega (arith, sound.most, ap (λ (t : Entries). length t) leaf, sound.height, total_most work.written.number work.written.extents work.written.parts parts, few)
 
   pub few_levels : work.levels.height ≤ 2 ^ 21
   few_levels = omega (arith, sound.height, total_most work.written.number work.written.extents work.written.parts parts, few)
@@ -52,10 +54,10 @@ module _ (work : WorkState) (filter : Filter) (sound : IsWork work) (leaf : work
   }
 
   some_leaves : 0 < work.leaves
-  some_leaves = omega (arith, sound.most, ap (λ (t : Table). length t) leaf)
+  some_leaves = omega (arith, sound.most, ap (λ (t : Entries). length t) leaf)
 
   table_is : table_in work.written.parts work.begun ≡ leaf_entries (shown_pages work.written.parts)
-  table_is = ap (λ (t : Table). table_in work.written.parts t) leaf ∙ append-nil (leaf_entries (shown_pages work.written.parts))
+  table_is = ap (λ (t : Entries). table_in work.written.parts t) leaf ∙ append-nil (leaf_entries (shown_pages work.written.parts))
 
   holds : IsTold work → HoldsTable made
   holds told =
@@ -72,14 +74,14 @@ module _ (work : WorkState) (filter : Filter) (sound : IsWork work) (leaf : work
       let height_is : work.levels.height ≡ work.levels.height + 1 - 1 = omega arith in
       let count : length work.hashes ≡ length (leaf_entries pages) =
       ap (λ (hs : List ℕ). length hs) told.hashes ∙ length-map (keys_of (table_in work.written.parts work.begun)) fnv_of
-      ∙ length-map (table_in work.written.parts work.begun) (λ entry. entry.0) ∙ ap (λ (t : Table). length t) table_is in
+      ∙ length-map (table_in work.written.parts work.begun) (λ entry. entry.0) ∙ ap (λ (t : Entries). length t) table_is in
       let cut : map (print_of filter.q) work.hashes ≡ map (fingerprint_of filter.q) (keys_of (leaf_entries pages)) =
-      ap (λ (hs : List ℕ). map (print_of filter.q) hs) (told.hashes ∙ ap (λ (t : Table). map fnv_of (keys_of t)) table_is)
+      ap (λ (hs : List ℕ). map (print_of filter.q) hs) (told.hashes ∙ ap (λ (t : Entries). map fnv_of (keys_of t)) table_is)
       ∙ sym (map-fingerprint_of filter.q (keys_of (leaf_entries pages))) in
       record {
-        order = subst IsTable table_is told.order;
+        order = subst AreEntries table_is told.order;
         entries = count;
-        cuts = told.cuts ∙ ap cuts_of table_is;
+        cuts = told.cuts ∙ ap (λ (t : Entries). cuts_of (as_table t)) table_is;
         tree = subst (λ (n : ℕ). IsTree (work.levels.height + 1 - 1) pages n) last_is (subst (λ (h : ℕ). IsTree h pages row.child) height_is grove.low.0.0);
         whole =
             ap₂ (λ (h n : ℕ). table_under h pages n) (sym height_is) (sym last_is)
@@ -112,7 +114,7 @@ module _ (work : WorkState) (filter : Filter) (sound : IsWork work) (leaf : work
   is_compact =
       let height_is : work.levels.height ≡ work.levels.height + 1 - 1 = omega arith in
       record {
-        keys = omega (arith, sound.most, ap (λ (t : Table). length t) leaf);
+        keys = omega (arith, sound.most, ap (λ (t : Entries). length t) leaf);
         levels = subst (λ (h : ℕ). IsPyramid work.leaves h 1 (page_total work.written.parts - 1)) height_is levels_fit;
         one = levels_one work.leaves work.levels.height (page_total work.written.parts - 1) levels_fit;
         many = levels_many work.leaves work.levels.height (page_total work.written.parts - 1) levels_fit;

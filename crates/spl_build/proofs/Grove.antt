@@ -1,6 +1,6 @@
 -- The trees of a branch while it is built.
 use Rattle.std.proofs.Common.{◌≡◌, ℕ, suc, true, false, List, [], ◌∷◌, ◌++◌, Some, None, length, sym, ap, ap₂, ◌∙◌, subst, append-nil, append_assoc}
-use Rattle.spl_message.specs.Table.{Table}
+use Rattle.spl_message.specs.Entries.{Entries}
 use Rattle.spl_port.specs.declared.at.At.{At}
 use Rattle.spl_port.specs.Counts.{Shown}
 use Rattle.spl_port.specs.Page.{IndexRow, index_fault, leaf_fault}
@@ -25,7 +25,7 @@ module _ (pages : List Shown) (at : At) (bytes : List ℕ) (key : List ℕ) (wai
         high = tt;
         whole =
             table_added 0 more waiting row
-            ∙ ap₂ (λ (front last : Table). front ++ last) (tables_stay 0 pages (page ∷ []) waiting grove.low ∙ grove.whole) (leaf_table_stands pages at bytes)
+            ∙ ap₂ (λ (front last : Entries). front ++ last) (tables_stay 0 pages (page ∷ []) waiting grove.low ∙ grove.whole) (leaf_table_stands pages at bytes)
             ∙ sym (leaf_entries_leaf pages at bytes leaf);
       }
 
@@ -48,11 +48,11 @@ module _ (pages : List Shown) (at : At) (bytes : List ℕ) (row : IndexRow) (mor
         high = child_added (suc height) all above parent (children_stay (suc height) pages (page ∷ []) above grove.high) (index_stands height pages at bytes index sound under)
             (ap first_key table ∙ first_key_of height pages row more taken);
         whole =
-            ap₂ (λ (front back : Table). front ++ back)
-            (table_added (suc height) all above parent ∙ ap₂ (λ (front last : Table). front ++ last) (tables_stay (suc height) pages (page ∷ []) above grove.high) table)
+            ap₂ (λ (front back : Entries). front ++ back)
+            (table_added (suc height) all above parent ∙ ap₂ (λ (front last : Entries). front ++ last) (tables_stay (suc height) pages (page ∷ []) above grove.high) table)
             (tables_stay height pages (page ∷ []) rest left)
             ∙ append_assoc (tables_under (suc height) pages above) (tables_under height pages (row ∷ more)) (tables_under height pages rest)
-            ∙ ap (λ (back : Table). tables_under (suc height) pages above ++ back) (sym (tables_join height pages (row ∷ more) rest))
+            ∙ ap (λ (back : Entries). tables_under (suc height) pages above ++ back) (sym (tables_join height pages (row ∷ more) rest))
             ∙ grove.whole
             ∙ sym (leaf_entries_index pages at bytes index);
       }

@@ -5,12 +5,13 @@ use Rattle.std.specs.Map.{keys_of}
 use Rattle.std.proofs.lemmas.Grind.{replicate_next}
 use Rattle.std.proofs.lemmas.List.{length-append, length_push, map-append, take-append-drop}
 use Rattle.spl_message.specs.Key.{AreRising}
-use Rattle.spl_message.specs.Table.{Table, IsTable, cuts_of}
+use Rattle.spl_message.specs.Entries.{Entries, AreEntries}
+use Rattle.spl_message.specs.Table.{as_table, cuts_of}
 use Rattle.spl_port.specs.Counts.{Shown}
 use Rattle.spl_port.specs.Page.{IndexRow, index_fault}
 use Rattle.spl_port.specs.Seal.{begins_leaf}
 use Rattle.spl_page.specs.Tables.{child_keys, children}
-use Rattle.spl_quotient.specs.Fnv.{fnv_of}
+use Rattle.spl_message.specs.Fnv.{fnv_of}
 use Rattle.spl_branch.specs.Branch.{leaf_entries}
 use Rattle.spl_branch.specs.Pages.{AreTold, kinds_of, page_total, shown_pages}
 use Rattle.spl_branch.proofs.GrowingLists.{all_append, all_back, all_front, all_weaker}
@@ -49,10 +50,10 @@ module _ (tells : Bool) (old written : Written) (bytes : List ℕ) where
   index_shown : Appends tells old written bytes → begins_leaf bytes ≡ false → AreTold written.parts → shown_pages written.parts ≡ shown_pages old.parts ++ record { at = next_place old false; bytes = bytes } ∷ []
   index_shown appends index told = appends.pages told ∙ ap (λ (b : Bool). shown_pages old.parts ++ record { at = next_place old b; bytes = bytes } ∷ []) index
 
-pub index_table_same : (tells : Bool) (old written : Written) (bytes : List ℕ) (begun : Table) → Appends tells old written bytes → begins_leaf bytes ≡ false → AreTold written.parts →
+pub index_table_same : (tells : Bool) (old written : Written) (bytes : List ℕ) (begun : Entries) → Appends tells old written bytes → begins_leaf bytes ≡ false → AreTold written.parts →
     table_in written.parts begun ≡ table_in old.parts begun
 index_table_same tells old written bytes begun appends index told =
-    ap (λ (t : Table). t ++ begun)
+    ap (λ (t : Entries). t ++ begun)
     (ap leaf_entries (index_shown tells old written bytes appends index told) ∙ leaf_entries_index (shown_pages old.parts) (next_place old false) bytes refl)
 
 module _ (tells : Bool) (work : WorkState) (written : Written) (bytes : List ℕ) (row : IndexRow) (more rest : List IndexRow) (sound : IsWork work)
@@ -104,9 +105,9 @@ module _ (tells : Bool) (work : WorkState) (written : Written) (bytes : List ℕ
       subst (λ (ps : List Shown). N ps (page_total work.written.parts)) (sym (index_shown tells work.written written bytes appends index are_told))
       (subst (λ (n : ℕ). N (pages ++ record { at = next_place work.written false; bytes = bytes } ∷ []) n) count grown) in
       record {
-        order = subst IsTable (sym same) told.order;
-        hashes = told.hashes ∙ ap (λ (t : Table). map fnv_of (keys_of t)) (sym same);
-        cuts = told.cuts ∙ ap cuts_of (sym same);
+        order = subst AreEntries (sym same) told.order;
+        hashes = told.hashes ∙ ap (λ (t : Entries). map fnv_of (keys_of t)) (sym same);
+        cuts = told.cuts ∙ ap (λ (t : Entries). cuts_of (as_table t)) (sym same);
         grove = grove_risen (shown_pages written.parts) rest (work.levels.above ++ record { child = page_total work.written.parts; key = row.key } ∷ []) work.levels.height placed;
       }
 

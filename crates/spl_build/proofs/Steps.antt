@@ -7,14 +7,14 @@ use Rattle.std.specs.Prelude.{All}
 use Rattle.std.proofs.lemmas.List.{length-append, length_push, map-append}
 use Rattle.spl_message.specs.declared.message.Message.{Message}
 use Rattle.spl_message.specs.Key.{AreRising, is_below}
-use Rattle.spl_message.specs.Table.{Table, IsTable}
+use Rattle.spl_message.specs.Entries.{Entries, AreEntries}
 use Rattle.spl_port.specs.declared.at.At.{At}
 use Rattle.spl_port.specs.Page.{IndexRow, index_fault, leaf_fault}
 use Rattle.spl_port.specs.Counts.{Counts}
 use Rattle.spl_port.specs.Seal.{Sealed, begins_leaf}
 use Rattle.spl_page.specs.LeafPage.{leaf_entry_length}
 use Rattle.spl_page.specs.Tables.{child_keys, children, leaf_table, table_length}
-use Rattle.spl_quotient.specs.Fnv.{fnv_of}
+use Rattle.spl_message.specs.Fnv.{fnv_of}
 use Rattle.spl_branch.specs.Branch.{leaf_entries}
 use Rattle.spl_branch.specs.Pages.{AreParts, kinds_of, page_total, shown_pages}
 use Rattle.spl_branch.specs.Tree.{first_key}
@@ -33,7 +33,7 @@ use Rattle.spl_build.specs.Written.{Appends, Written, next_place}
 
 -- ---- nothing was added
 
-pub nothing_adds : (number : ℕ) (written : Written) (begun : Table) (hashes : List ℕ) (cuts : List (List ℕ)) (last : Option (List ℕ)) (levels : LevelState) →
+pub nothing_adds : (number : ℕ) (written : Written) (begun : Entries) (hashes : List ℕ) (cuts : List (List ℕ)) (last : Option (List ℕ)) (levels : LevelState) →
     written ≡ record { number = number; extents = []; parts = [] } → begun ≡ [] → hashes ≡ [] → cuts ≡ [] → last ≡ None → levels ≡ record { waiting = []; above = []; height = 0 } →
     IsAdding (record { written = written; begun = begun; first = None; hashes = hashes; cuts = cuts; last = last; leaves = 0; levels = levels })
 nothing_adds number written begun hashes cuts last levels written_is begun_is hashes_are cuts_are last_is levels_are =
@@ -41,11 +41,11 @@ nothing_adds number written begun hashes cuts last levels written_is begun_is ha
 
 -- ---- one more key
 
-first_more : (table : Table) (key : List ℕ) (message : Message) → option_or (first_key table) (Some key) ≡ first_key (table ++ (key, message) ∷ [])
+first_more : (table : Entries) (key : List ℕ) (message : Message) → option_or (first_key table) (Some key) ≡ first_key (table ++ (key, message) ∷ [])
 first_more [] key message = refl
 first_more (entry ∷ table) key message = refl
 
-module _ (work : WorkState) (key : List ℕ) (message : Message) (begun : Table) (first : Option (List ℕ)) (hashes : List ℕ) (cuts : List (List ℕ)) (last : Option (List ℕ))
+module _ (work : WorkState) (key : List ℕ) (message : Message) (begun : Entries) (first : Option (List ℕ)) (hashes : List ℕ) (cuts : List (List ℕ)) (last : Option (List ℕ))
     (begun_is : begun ≡ work.begun ++ (key, message) ∷ []) (hashes_are : hashes ≡ work.hashes ++ fnv_of key ∷ []) (cuts_are : cuts ≡ cuts_with work.cuts (length work.hashes) key) (last_is : last ≡ Some key) where
   pub push_adds : IsAdding work → IfSome work.last (λ last. is_below last key ≡ true) → first ≡ option_or work.first (Some key) →
       IsAdding (record work { begun = begun; first = first; hashes = hashes; cuts = cuts; last = last })
@@ -70,12 +70,12 @@ module _ (work : WorkState) (key : List ℕ) (message : Message) (begun : Table)
         stage = refl;
         stopped = none;
         table = λ _.
-            ap (λ (t : Table). leaf_entries (shown_pages work.written.parts) ++ t) begun_is
+            ap (λ (t : Entries). leaf_entries (shown_pages work.written.parts) ++ t) begun_is
             ∙ sym (append_assoc (leaf_entries (shown_pages work.written.parts)) work.begun ((key, message) ∷ []));
       })
 
 -- the begun leaf page stays a table
-pub push_rises : (work : WorkState) (key : List ℕ) (message : Message) → IsAdding work → IfSome work.last (λ last. is_below last key ≡ true) → IsTable (work.begun ++ (key, message) ∷ [])
+pub push_rises : (work : WorkState) (key : List ℕ) (message : Message) → IsAdding work → IfSome work.last (λ last. is_below last key ≡ true) → AreEntries (work.begun ++ (key, message) ∷ [])
 push_rises work key message adding above =
     let rises = subst AreRising (append_assoc (child_keys work.levels.waiting) (keys_of work.begun) (key ∷ [])) (adding.room key above) in
     subst AreRising (sym (keys_grow work.begun key message)) (rising_back (child_keys work.levels.waiting) (keys_of work.begun ++ key ∷ []) rises)
@@ -85,7 +85,7 @@ push_rises work key message adding above =
 pub leaves_fit : (work : WorkState) → IsAdding work → page_total work.written.parts < 32 * length work.written.extents → length work.written.extents ≤ 65536 → work.leaves ≤ 2 ^ 21
 leaves_fit work adding room extents = omega (arith, adding.leaves)
 
-no_first : (table : Table) → 0 < length table → first_key table ≡ None → ⊥
+no_first : (table : Entries) → 0 < length table → first_key table ≡ None → ⊥
 no_first [] some none = omega arith
 no_first (entry ∷ table) some none = cc
 
@@ -93,7 +93,7 @@ no_first (entry ∷ table) some none = cc
 pub has_first : (work : WorkState) → IsAdding work → 0 < length work.begun → work.first ≡ None → ⊥
 has_first work adding some none = no_first work.begun some (sym adding.sound.first ∙ none)
 
-module _ (tells : Bool) (work : WorkState) (written : Written) (bytes key : List ℕ) (at : At) (begun : Table) (leaves : ℕ) (levels : LevelState)
+module _ (tells : Bool) (work : WorkState) (written : Written) (bytes key : List ℕ) (at : At) (begun : Entries) (leaves : ℕ) (levels : LevelState)
     (adding : IsAdding work) (first_is : work.first ≡ Some key) (few : length work.begun ≤ 816) (appends : Appends tells work.written written bytes) (at_is : at ≡ next_place work.written true)
     (sound : leaf_fault at bytes ≡ None) (table : leaf_table bytes ≡ work.begun) (leaf : begins_leaf bytes ≡ true) (begun_is : begun ≡ []) (leaves_are : leaves ≡ work.leaves + 1)
     (levels_are : levels ≡ record work.levels { waiting = work.levels.waiting ++ record { child = at.page; key = key } ∷ [] }) where
@@ -118,7 +118,7 @@ module _ (tells : Bool) (work : WorkState) (written : Written) (bytes key : List
         hashes = refl;
         cuts = refl;
         last = refl;
-        table = λ is. ap (λ (t : Table). leaf_entries (shown_pages written.parts) ++ t) begun_is ∙ leaf_table_same tells work written bytes key adding first_is few appends sound_there table leaf (appends.told is);
+        table = λ is. ap (λ (t : Entries). leaf_entries (shown_pages written.parts) ++ t) begun_is ∙ leaf_table_same tells work written bytes key adding first_is few appends sound_there table leaf (appends.told is);
       })
 
   pub leaf_written : (old : WorkState) (stage : Stage) (stopped : Option BuildFault) → work ≡ old → AreParts written.number written.extents written.parts →
@@ -149,7 +149,7 @@ page_gained tells old new bytes work before after same appends writes faults =
 pub next_adds : (tells : Bool) (old mid new : Building) (key : List ℕ) (message : Message) → 4096 < table_length old.begun + leaf_entry_length key message → table_length [] + leaf_entry_length key message ≤ 4096 →
     Keeps tells old mid → WritesLeaf tells old mid → mid.begun ≡ [] → mid.stage ≡ old.stage → Adds tells mid new key message → Adds tells old new key message
 next_adds tells old mid new key message over short kept written empty stage adds =
-    let goes = adds.page (subst (λ (t : Table). table_length t + leaf_entry_length key message ≤ 4096) (sym empty) short) in
+    let goes = adds.page (subst (λ (t : Entries). table_length t + leaf_entry_length key message ≤ 4096) (sym empty) short) in
     record {
       number = adds.number ∙ kept.number;
       extents = adds.extents ∙ kept.extents;
@@ -158,7 +158,7 @@ next_adds tells old mid new key message over short kept written empty stage adds
       last = adds.last;
       page = λ fits. absurd (omega (arith, over, fits));
       next = λ _. (
-        goes.begun ∙ ap (λ (t : Table). t ++ (key, message) ∷ []) empty,
+        goes.begun ∙ ap (λ (t : Entries). t ++ (key, message) ∷ []) empty,
         record {
           parts = subst (λ (p : List Sealed). AreParts new.number new.extents p) (sym goes.parts)
               (subst (λ (n : ℕ). AreParts n new.extents mid.parts) (sym adds.number) (subst (λ (e : List ℕ). AreParts mid.number e mid.parts) (sym adds.extents) written.parts));
@@ -170,7 +170,7 @@ next_adds tells old mid new key message over short kept written empty stage adds
       cuts = adds.cuts ∙ ap₂ (λ (cs : List (List ℕ)) (n : ℕ). cuts_with cs n key) kept.cuts kept.entries;
       stage = adds.stage ∙ stage;
       stopped = adds.stopped;
-      table = λ is. adds.table is ∙ ap (λ (t : Table). t ++ (key, message) ∷ []) (kept.table is);
+      table = λ is. adds.table is ∙ ap (λ (t : Entries). t ++ (key, message) ∷ []) (kept.table is);
     }
 
 -- ---- one more index page

@@ -1,12 +1,14 @@
 -- A builder of a branch, as contracts see it.
 use Rattle.std.specs.Prelude.{◌≡◌, ℕ, ◌+◌, ◌-◌, ◌*◌, ◌^◌, ◌<◌, ◌≤◌, ◌⊎◌, Bool, true, ◌↔◌, List, [], ◌∷◌, ◌++◌, length, map, Contains, Option, Some, None}
 use Rattle.spl_message.specs.declared.message.Message.{Message}
-use Rattle.spl_message.specs.Table.{Table}
+use Rattle.spl_message.specs.Entries.{Entries}
+use Rattle.spl_message.specs.Table.{as_table}
 use Rattle.spl_port.specs.Counts.{Shown}
 use Rattle.spl_port.specs.Seal.{Sealed}
 use Rattle.spl_quotient.specs.Exponent.{IsExponent}
 use Rattle.spl_quotient.specs.Filter.{Filter}
-use Rattle.spl_quotient.specs.Fnv.{fnv_of, print_of}
+use Rattle.spl_message.specs.Fnv.{fnv_of}
+use Rattle.spl_quotient.specs.Fnv.{print_of}
 use Rattle.spl_page.specs.LeafPage.{leaf_entry_length}
 use Rattle.spl_page.specs.Tables.{leaf_table, table_length}
 use Rattle.spl_branch.specs.Branch.{Branch, IsBranch, leaf_entries, table_of}
@@ -27,7 +29,7 @@ pub record Building : Type 0 where
   pub number : ℕ
   pub extents : List ℕ
   pub parts : List Sealed
-  pub begun : Table
+  pub begun : Entries
   pub entries : ℕ
   pub hashes : List ℕ
   pub cuts : List (List ℕ)
@@ -60,7 +62,7 @@ IsBuilding work Finishing None = IsFinishing work
 IsBuilding work Over None = Unit {0}
 
 -- what was added, where pages are told
-abbrev pub added : Building → Table
+abbrev pub added : Building → Entries
 added builder = leaf_entries (shown_pages builder.parts) ++ builder.begun
 
 -- the entry fits into the leaf page that is begun: it stands there, and the written pages stay
@@ -140,7 +142,7 @@ pub record Builds (tells : Bool) (old : Building) (branch : Branch) : Type 0 whe
   pub filter : IsFilterOf old.hashes branch.filter
   pub sound : IsBranch branch
   pub compact : IsCompact branch
-  pub table : tells ≡ true → table_of branch ≡ added old
+  pub table : tells ≡ true → table_of branch ≡ as_table (added old)
 
 -- the key does not fit into the leaf page that is begun, and the next page has no extent left
 abbrev pub HasNoRoom : Building → List ℕ → Message → Type 0

@@ -4,8 +4,9 @@ use Rattle.std.specs.List.{AllByRecursion, last_or}
 use Rattle.std.specs.Map.{keys_of}
 use Rattle.spl_message.specs.declared.message.Message.{Message}
 use Rattle.spl_message.specs.Key.{AreRising, is_below}
-use Rattle.spl_message.specs.Table.{Table, IsTable, cuts_of}
-use Rattle.spl_quotient.specs.Fnv.{fnv_of}
+use Rattle.spl_message.specs.Entries.{Entries, AreEntries}
+use Rattle.spl_message.specs.Table.{as_table, cuts_of}
+use Rattle.spl_message.specs.Fnv.{fnv_of}
 use Rattle.spl_port.specs.Counts.{Shown}
 use Rattle.spl_port.specs.Page.{IndexRow}
 use Rattle.spl_port.specs.Seal.{Sealed}
@@ -22,7 +23,7 @@ use Rattle.spl_build.specs.Written.{IsFull, Written}
 -- written, and the pages that have no parent yet
 pub record WorkState : Type 0 where
   pub written : Written
-  pub begun : Table
+  pub begun : Entries
   pub first : Option (List ℕ)
   pub hashes : List ℕ
   pub cuts : List (List ℕ)
@@ -31,7 +32,7 @@ pub record WorkState : Type 0 where
   pub levels : LevelState
 
 -- what was added, where pages are told
-abbrev pub table_in : List Sealed → Table → Table
+abbrev pub table_in : List Sealed → Entries → Entries
 table_in parts begun = leaf_entries (shown_pages parts) ++ begun
 
 -- the pages that have no parent yet, in the order of the keys under them
@@ -60,9 +61,9 @@ IsStacked leaves levels pages = (count : ℕ) × (lower : ℕ) × IsPyramid leav
 
 -- what the told pages hold
 pub record IsTold (work : WorkState) : Type 0 where
-  pub order : IsTable (table_in work.written.parts work.begun)
+  pub order : AreEntries (table_in work.written.parts work.begun)
   pub hashes : work.hashes ≡ map fnv_of (keys_of (table_in work.written.parts work.begun))
-  pub cuts : work.cuts ≡ cuts_of (table_in work.written.parts work.begun)
+  pub cuts : work.cuts ≡ cuts_of (as_table (table_in work.written.parts work.begun))
   pub grove : IsGrove (shown_pages work.written.parts) work.levels
 
 -- what holds of the work; of what its pages hold only where they are told

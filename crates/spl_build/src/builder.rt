@@ -1,7 +1,6 @@
 ghost use Rattle.std.specs.Prelude.{◌≡◌, ◌≢◌, ◌+◌, ◌<◌, ◌≤◌, ◌↔◌, [], ◌∷◌, ◌++◌, true, length, Some, None, IsTrue, IfOk, IfErr, IfSome, OnOk, OnErr};
 ghost use Rattle.spl_message.specs.Key.{is_below};
-ghost use Rattle.spl_page.specs.LeafPage.{leaf_entry_length};
-ghost use Rattle.spl_page.specs.Tables.{table_length};
+ghost use Rattle.spl_page.specs.Lent.{message_lent};
 ghost use Rattle.spl_port.specs.Port.{WritesOne};
 ghost use Rattle.spl_build.specs.Builder.{Adds, Builds, HasNoRoom, IfBuilt, Needs};
 ghost use Rattle.spl_branch.specs.Pages.{page_total};
@@ -10,7 +9,8 @@ ghost use Rattle.spl_build.specs.Fault.{HasBuildCause};
 
 use crate::work::Work;
 use crate::{Add, BuildFault, Finish, Stage};
-use spl_message::{Key, Message, NoMemory};
+use spl_message::{Key, NoMemory};
+use spl_page::LentMessage;
 use spl_port::Port;
 use std::alloc::Global;
 use std::marker::Model;
@@ -61,8 +61,13 @@ impl<P: Port> Builder<P> {
         }
     }
 
-    /// Adds a key with its message behind the others. Where the next page has no extent left, nothing is added.
-    pub fn add(&mut self, port: &mut P, key: &Key, message: &Message) -> Result<Add, BuildFault>
+    /// Adds a key with its message, which is lent, behind the others. Where the next page has no extent left, nothing is added.
+    pub fn add(
+        &mut self,
+        port: &mut P,
+        key: &Key,
+        message: LentMessage<'_>,
+    ) -> Result<Add, BuildFault>
         requires stage { self.old.stopped ≡ None → self.old.stage ≡ Stage.Adding }
         requires rising { self.old.stopped ≡ None → IfSome self.old.last (λ last. is_below last key.now ≡ true) }
 
@@ -71,10 +76,10 @@ impl<P: Port> Builder<P> {
         ensures stopped_same { IfSome self.old.stopped (λ _. self.new ≡ self.old) }
         ensures stopped_counts { IfSome self.old.stopped (λ _. P.counts port.new ≡ P.counts port.old) }
 
-        ensures needs { IfOk result (λ answer. (answer ≡ Add.Needs) ↔ HasNoRoom self.old key.now message.now) }
+        ensures needs { IfOk result (λ answer. (answer ≡ Add.Needs) ↔ HasNoRoom self.old key.now (message_lent message.entry)) }
         ensures needs_same { result ≡ Ok Add.Needs → self.new ≡ self.old }
         ensures needs_counts { result ≡ Ok Add.Needs → P.counts port.new ≡ P.counts port.old }
-        ensures done { result ≡ Ok Add.Done → Adds P.Seal.TELLS self.old self.new key.now message.now }
+        ensures done { result ≡ Ok Add.Done → Adds P.Seal.TELLS self.old self.new key.now (message_lent message.entry) }
         ensures pages { OnOk result (WritesPages (P.counts port.old) (P.counts port.new) (page_total self.old.parts) (page_total self.new.parts)) }
         ensures err { IfErr result (λ fault. self.new.stopped ≡ Some fault) }
         ensures counts { WritesOne (P.counts port.old) (P.counts port.new) }

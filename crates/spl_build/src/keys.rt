@@ -1,9 +1,8 @@
 ghost use Rattle.std.specs.Prelude.{◌≡◌, ◌++◌, [], ◌∷◌, Some, None, length, OnOk};
-ghost use Rattle.spl_quotient.specs.Fnv.{fnv_of};
+ghost use Rattle.spl_message.specs.Fnv.{fnv_of};
 ghost use Rattle.spl_build.specs.Cuts.{cuts_with};
 
-use spl_message::{Key, NoMemory};
-use spl_quotient::fnv;
+use spl_message::{Key, NoMemory, fnv};
 use std::alloc::Global;
 
 /// At how many keys a branch may be cut once more.

@@ -5,8 +5,10 @@ ghost use Rattle.spl_build.specs.declared.stage.Stage.TheVariants.{Adding};
 
 use crate::{Add, BuildFault, Builder, Finish};
 use spl_branch::{Branch, BranchFault};
-use spl_message::{Content, Key, Message, Value};
-use spl_port::{Blur, BlurPort, Calls, Damaged, Direct, MemPort, Patches, Port, Seal, Why};
+use spl_message::{Content, HashedKey, Key, Message, Value};
+use spl_page::LentMessage;
+use spl_pager::Direct;
+use spl_port::{Blur, BlurPort, Calls, Damaged, MemPort, Patches, Port, Seal, Why};
 use std::alloc::Global;
 use std::process::Abort;
 use std::test::Fail;
@@ -66,7 +68,7 @@ fn fill<P: Port>(
     for number in 0..count {
         let key = key_of(rt, alloc, number);
         assert!(rt; rises(&last, &key));
-        match builder.add(port, &key, message)? {
+        match builder.add(port, &key, LentMessage::of(message))? {
             Add::Done => last = Some(key),
             Add::Needs => panic!(rt; "no extent is left"),
         }
@@ -102,7 +104,7 @@ fn a_builder_asks_for_an_extent_when_a_page_is_due(rt: HostRuntime) -> Result<()
     let mut builder = builder_with(&rt, alloc, 0);
     let one = insert(&rt, alloc, b"1");
     let key = key_of(&rt, alloc, 0);
-    match builder.add(&mut port, &key, &one)? {
+    match builder.add(&mut port, &key, LentMessage::of(&one))? {
         Add::Done => {}
         Add::Needs => panic!(rt; "the first page has no room"),
     }
@@ -155,13 +157,22 @@ fn a_lookup_reads_one_page_a_level(rt: HostRuntime) -> Result<(), Fail> {
     let one = insert(&rt, alloc, b"1");
     let branch = build(&rt, alloc, &mut builder, &mut port, 409, &one)?;
     let last = key_of(&rt, alloc, 408);
-    assert!(rt; branch.get(&mut port, &Direct, &last)?.as_ref() == Some(&one));
+    assert!(rt;
+        branch
+            .get(&mut port, &Direct, &HashedKey::of(&last))?
+            .as_ref()
+            == Some(&one)
+    );
     assert_eq!(rt; port.reads(), 2);
     for bytes in ["a", "k", "k0", "k00000", "k0408a", "k0409", "z"] {
         let absent = Key::read(bytes.as_bytes())?;
         let before = port.reads();
-        assert!(rt; branch.get(&mut port, &Direct, &absent)?.is_none());
-        assert_eq!(rt; branch.reach(&absent), 0, "{bytes}");
+        assert!(rt;
+            branch
+                .get(&mut port, &Direct, &HashedKey::of(&absent))?
+                .is_none()
+        );
+        assert_eq!(rt; branch.reach(&HashedKey::of(&absent)), 0, "{bytes}");
         assert_eq!(rt; port.reads(), before);
     }
     Ok(())
@@ -177,7 +188,7 @@ fn a_read_that_fails_is_the_devices_fault(rt: HostRuntime) -> Result<(), Fail> {
     let first = key_of(&rt, alloc, 0);
     assert!(rt;
         matches!(
-            branch.get(&mut port, &Direct, &first),
+            branch.get(&mut port, &Direct, &HashedKey::of(&first)),
             Err(BranchFault::Fault)
         )
     );
@@ -195,14 +206,27 @@ fn updates_and_deletes_come_back(rt: HostRuntime) -> Result<(), Fail> {
     let update = Message::Update(Value::read(alloc, b"+2")?);
     assert!(rt; first < second);
     assert_eq!(rt;
-        builder.add(&mut port, &first, &Message::Delete)?,
+        builder.add(&mut port, &first, LentMessage::of(&Message::Delete))?,
         Add::Done
     );
-    assert_eq!(rt; builder.add(&mut port, &second, &update)?, Add::Done);
+    assert_eq!(rt;
+        builder.add(&mut port, &second, LentMessage::of(&update))?,
+        Add::Done
+    );
     match builder.finish(&mut port)? {
         Finish::Built(branch) => {
-            assert!(rt; branch.get(&mut port, &Direct, &first)?.as_ref() == Some(&Message::Delete));
-            assert!(rt; branch.get(&mut port, &Direct, &second)?.as_ref() == Some(&update));
+            assert!(rt;
+                branch
+                    .get(&mut port, &Direct, &HashedKey::of(&first))?
+                    .as_ref()
+                    == Some(&Message::Delete)
+            );
+            assert!(rt;
+                branch
+                    .get(&mut port, &Direct, &HashedKey::of(&second))?
+                    .as_ref()
+                    == Some(&update)
+            );
         }
         _ => panic!(rt; "no branch"),
     }
@@ -223,7 +247,10 @@ fn a_call_that_fails_stops_the_builder(rt: HostRuntime) -> Result<(), Fail> {
             Err(fault) => {
                 assert_eq!(rt; fault, BuildFault::Fault);
                 let writes = port.writes();
-                assert_eq!(rt; builder.add(&mut port, &next, &one), Err(BuildFault::Fault));
+                assert_eq!(rt;
+                    builder.add(&mut port, &next, LentMessage::of(&one)),
+                    Err(BuildFault::Fault)
+                );
                 assert!(rt; matches!(builder.finish(&mut port), Err(BuildFault::Fault)));
                 assert_eq!(rt; (port.faults(), port.writes()), (1, writes));
             }
@@ -245,7 +272,10 @@ fn a_branch_spans_extents(rt: HostRuntime) -> Result<(), Fail> {
         let key = key_of(&rt, alloc, number);
         let before = port.reads();
         assert!(rt;
-            branch.get(&mut port, &Direct, &key)?.as_ref() == Some(&long),
+            branch
+                .get(&mut port, &Direct, &HashedKey::of(&key))?
+                .as_ref()
+                == Some(&long),
             "{number}"
         );
         assert_eq!(rt; port.reads() - before, 3);
@@ -265,7 +295,7 @@ fn first_of(rt: &impl Abort, alloc: Global, blur: Blur) -> Result<Option<Message
     let mut builder = builder_with(rt, alloc, 1);
     let one = insert(rt, alloc, b"1");
     let branch = build(rt, alloc, &mut builder, &mut port, 409, &one).expect(rt, "a branch");
-    branch.get(&mut port, &Direct, &key_of(rt, alloc, 0))
+    branch.get(&mut port, &Direct, &HashedKey::of(&key_of(rt, alloc, 0)))
 }
 
 #[test]

@@ -2,6 +2,7 @@ ghost use Rattle.std.specs.Prelude.{◌≡◌, ◌+◌, ◌*◌, ◌<◌, ◌≤
 ghost use Rattle.std.specs.Option.{option_or};
 ghost use Rattle.spl_message.specs.Key.{is_below};
 ghost use Rattle.spl_page.specs.LeafPage.{leaf_entry_length};
+ghost use Rattle.spl_page.specs.Lent.{message_lent};
 ghost use Rattle.spl_page.specs.Tables.{table_length};
 ghost use Rattle.spl_branch.specs.Pages.{AreParts, page_total};
 ghost use Rattle.spl_port.specs.Port.{MovesNone, WritesOne};
@@ -17,8 +18,8 @@ use crate::levels::Levels;
 use crate::pages::Pages;
 use crate::{Add, BuildFault};
 use spl_branch::{Branch, Parts};
-use spl_message::{Key, Message, NoMemory};
-use spl_page::LeafWriter;
+use spl_message::{Key, NoMemory};
+use spl_page::{LeafWriter, LentMessage};
 use spl_port::Port;
 use spl_quotient::Filter;
 use std::alloc::Global;
@@ -98,21 +99,21 @@ impl<P: Port> Work<P> {
         &mut self,
         port: &mut P,
         key: &Key,
-        message: &Message,
+        message: LentMessage<'_>,
     ) -> Result<Add, BuildFault>
         requires adding { IsAdding self.old }
         requires rising { IfSome self.old.last (λ last. is_below last key.now ≡ true) }
-        ensures needs { IfOk result (λ answer. (answer ≡ Add.Needs) ↔ NoRoom self.old key.now message.now) }
+        ensures needs { IfOk result (λ answer. (answer ≡ Add.Needs) ↔ NoRoom self.old key.now (message_lent message.entry)) }
         ensures same { result ≡ Ok Add.Needs → (self.new ≡ self.old) × (P.counts port.new ≡ P.counts port.old) }
         ensures adding { IfOk result (λ _. IsAdding self.new) }
         ensures done { result ≡ Ok Add.Done
-            → Adds P.Seal.TELLS (building self.old Adding None) (building self.new Adding None) key.now message.now }
+            → Adds P.Seal.TELLS (building self.old Adding None) (building self.new Adding None) key.now (message_lent message.entry) }
         ensures pages { OnOk result (WritesPages (P.counts port.old) (P.counts port.new)
             (page_total self.old.written.parts) (page_total self.new.written.parts)) }
         ensures counts { WritesOne (P.counts port.old) (P.counts port.new) }
         ensures cause { HasBuildCause (P.counts port.old) (P.counts port.new) result }
     {
-        if !self.leaf.fits(key, message) {
+        if !self.leaf.fits_lent(key, message) {
             if self.pages.is_full() {
                 return Ok(Add::Needs);
             }
@@ -123,14 +124,14 @@ impl<P: Port> Work<P> {
     }
 
     /// Puts a key with its message into the leaf page that is begun.
-    fn push(&mut self, key: &Key, message: &Message) -> Result<(), NoMemory>
+    fn push(&mut self, key: &Key, message: LentMessage<'_>) -> Result<(), NoMemory>
         requires adding { IsAdding self.old }
         requires rising { IfSome self.old.last (λ last. is_below last key.now ≡ true) }
-        requires fits { table_length self.old.begun + leaf_entry_length key.now message.now ≤ 4096 }
+        requires fits { table_length self.old.begun + leaf_entry_length key.now (message_lent message) ≤ 4096 }
         ensures adding { OnOk result (IsAdding self.new) }
-        ensures done { OnOk result (Adds P.Seal.TELLS (building self.old Adding None) (building self.new Adding None) key.now message.now) }
+        ensures done { OnOk result (Adds P.Seal.TELLS (building self.old Adding None) (building self.new Adding None) key.now (message_lent message.entry)) }
     {
-        self.leaf.push(key, message)?;
+        self.leaf.push_lent(key, message)?;
         set_first(&mut self.first, key);
         self.keys.push(key)?;
         Ok(())

@@ -6,6 +6,8 @@
 
 mod node;
 mod pivot;
+#[cfg(test)]
+mod tests;
 
 pub use node::{MAX_PIVOTS, Node};
 pub use pivot::{Pivot, Pivots};
