@@ -4,10 +4,13 @@ ghost use Rattle.spl_port.specs.Seal.{page_count, place};
 use crate::Cache;
 use spl_page::AnyPage;
 use spl_pager::{FetchFault, Pager};
-use spl_port::{At, Blur, BlurPort, Damaged, MemPort, PAGE_BYTES, Port, PortFault, Seal, Why};
+use spl_port::{
+    At, Blur, BlurPort, Damaged, MemPort, MemSeal, PAGE_BYTES, Port, PortFault, Seal, Why,
+};
 use std::alloc::Global;
 use std::sync::Arc;
 use std::test::Fail;
+use std::thread::join;
 
 /// A page that was written, alone in its extent.
 #[derive(Drop)]
@@ -33,7 +36,7 @@ fn leaf_page(part: u32) -> [u8; PAGE_BYTES]
 }
 
 /// Writes that page into an extent of its own.
-fn written<P: Port>(port: &mut P, part: u32) -> Result<Written<P::Seal>, PortFault>
+fn stored<P: Port>(port: &mut P, part: u32) -> Result<Written<P::Seal>, PortFault>
     requires { part < 1024 }
 {
     let mut draft = port.begin(part, 7, 32 * part);
@@ -61,14 +64,14 @@ fn a_page_is_read_once_and_the_first_of_nine_comes_back(rt: HostRuntime) -> Resu
     let cache = Cache::new(alloc, 1)?;
     crosses(&cache);
     let mut port = MemPort::new(alloc);
-    let first = written(&mut port, 0)?;
+    let first = stored(&mut port, 0)?;
     for _ in 0..2 {
         let page = fetched(alloc, &mut port, &cache, &first)?;
         assert!(rt; *page.bytes() == leaf_page(0));
     }
     assert_eq!(rt; port.reads(), 1);
     for part in 1..9 {
-        let next = written(&mut port, part)?;
+        let next = stored(&mut port, part)?;
         let page = fetched(alloc, &mut port, &cache, &next)?;
         assert!(rt; *page.bytes() == leaf_page(part));
     }
@@ -82,7 +85,7 @@ fn a_page_that_is_none_is_read_each_time(rt: HostRuntime) -> Result<(), Fail> {
     let alloc = rt.alloc();
     let cache = Cache::new(alloc, 1)?;
     let mut port = BlurPort::new(alloc, Blur::Zeros);
-    let page = written(&mut port, 2)?;
+    let page = stored(&mut port, 2)?;
     let at = At {
         extent: 2,
         branch: 7,
@@ -94,5 +97,43 @@ fn a_page_that_is_none_is_read_each_time(rt: HostRuntime) -> Result<(), Fail> {
         let fault = fetched(alloc, &mut port, &cache, &page).err();
         assert_eq!(rt; fault, Some(FetchFault::Damaged(Damaged { at, why })));
     }
+    Ok(())
+}
+
+/// Fetches the pages in turn, by a port of its own, and says whether each of them was the one that was written.
+fn rounds(alloc: Global, cache: &Cache, pages: &[Written<MemSeal>]) -> bool {
+    let mut port = MemPort::new(alloc);
+    for _ in 0..100 {
+        for (part, page) in pages.iter().enumerate() {
+            let Ok(found) = fetched(alloc, &mut port, cache, page) else {
+                return false;
+            };
+            if *found.bytes() != leaf_page((part % 20) as u32) {
+                return false;
+            }
+        }
+    }
+    true
+}
+
+#[test]
+fn four_threads_are_given_the_written_pages(rt: HostRuntime) -> Result<(), Fail> {
+    let alloc = rt.alloc();
+    let cache = Cache::new(alloc, 1)?;
+    let mut port = MemPort::new(alloc);
+    let mut pages = Vec::with_capacity(alloc, 20)?;
+    for part in 0..20 {
+        pages.push(stored(&mut port, part)?)?;
+    }
+    let pages = pages.as_slice();
+    let two = || -> (bool, bool) {
+        join(
+            &rt,
+            || rounds(alloc, &cache, pages),
+            || rounds(alloc, &cache, pages),
+        )
+    };
+    let (first, second) = join(&rt, two, two);
+    assert!(rt; first.0 && first.1 && second.0 && second.1);
     Ok(())
 }
