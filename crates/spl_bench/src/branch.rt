@@ -17,10 +17,10 @@ use std::rt::Clock;
 /// How many extents the builder is given: room for some 800,000 keys.
 const EXTENTS: u32 = 64;
 
-const LOOKUPS: u32 = 200_000;
+pub const LOOKUPS: u32 = 200_000;
 
 /// The key of a number: its four bytes, with the highest first.
-pub fn key_of(number: u32) -> Option<Key> {
+fn key_of(number: u32) -> Option<Key> {
     Key::read(&number.to_be_bytes()).ok()
 }
 
@@ -89,20 +89,30 @@ pub fn lookups<G: Pager>(
     found
 }
 
-/// Times a branch of so many keys.
-pub fn measure<R: Clock + Print + AllocGlobal>(rt: &R, count: u32) -> Result<()> {
+/// Builds a branch of so many keys, and times that.
+pub fn built<R: Clock + Print + AllocGlobal>(
+    rt: &R,
+    port: &mut MemPort,
+    count: u32,
+) -> Result<Branch<MemSeal>> {
     let alloc = rt.alloc();
     let message = Message::Insert(Value::read(alloc, b"11")?);
-    let mut port = MemPort::new(alloc);
     let mut builder = builder(alloc)?;
     let timed = Timed::start(rt)?;
-    let added = fill(&mut builder, &mut port, count, &message);
+    let added = fill(&mut builder, port, count, &message);
     timed.tell(rt, "add a key", u64::from(count), u64::from(added))?;
     let timed = Timed::start(rt)?;
-    let Finish::Built(branch) = builder.finish(&mut port)? else {
+    let Finish::Built(branch) = builder.finish(port)? else {
         bail!("no branch was built");
     };
     timed.tell(rt, "finish, for each key", u64::from(count), port.writes())?;
+    Ok(branch)
+}
+
+/// Times a branch of so many keys.
+pub fn measure<R: Clock + Print + AllocGlobal>(rt: &R, count: u32) -> Result<()> {
+    let mut port = MemPort::new(rt.alloc());
+    let branch = built(rt, &mut port, count)?;
     let timed = Timed::start(rt)?;
     let found = lookups(&branch, &mut port, &Direct, count);
     timed.tell(

@@ -3,11 +3,16 @@
 //! | mode     | what is timed                                                                     |
 //! | `page`   | a page of so many entries: its check, a search, an entry passed on                |
 //! | `branch` | a branch of so many keys: building it, and lookups that read and check each page  |
+//! | `cache`  | lookups whose pages are in a cache                                                |
+//! | `shared` | the same by four threads at once                                                  |
+//! | `keys`   | puts of new keys into a memtable, and a filter that is asked for keys that it has |
 //!
 //! Each line is a figure in nanoseconds, with a count that shows that the work was done.
 #![tactic(auto)]
 
 mod branch;
+mod cached;
+mod keys;
 mod page;
 mod timed;
 
@@ -20,14 +25,20 @@ use std::rt::Env;
 enum Mode {
     Page,
     Branch,
+    Cache,
+    Shared,
+    Keys,
 }
 
-const USAGE: &str = "usage: spl_bench page|branch NUMBER";
+const USAGE: &str = "usage: spl_bench page|branch|cache|shared|keys NUMBER";
 
 fn mode_of(word: &str) -> Option<Mode> {
     match word {
         "page" => Some(Mode::Page),
         "branch" => Some(Mode::Branch),
+        "cache" => Some(Mode::Cache),
+        "shared" => Some(Mode::Shared),
+        "keys" => Some(Mode::Keys),
         _ => None,
     }
 }
@@ -51,6 +62,9 @@ fn main(rt: HostRuntime) -> Result<()> {
     match asked(&rt)? {
         Some((Mode::Page, number)) => page::measure(&rt, number.min(408) as u16),
         Some((Mode::Branch, number)) => branch::measure(&rt, number),
+        Some((Mode::Cache, number)) => cached::measure(&rt, number),
+        Some((Mode::Shared, number)) => cached::measure_shared(&rt, number),
+        Some((Mode::Keys, number)) => keys::measure(&rt, number),
         None => {
             println!(rt; "{USAGE}")?;
             Ok(())

@@ -3,3 +3,4 @@ pub mod Soundness
 pub mod Runs
 pub mod Copies
 pub mod Live
+pub mod Changes

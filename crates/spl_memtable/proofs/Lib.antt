@@ -1,3 +1,4 @@
 pub mod Parts
 pub mod Searches
+pub mod Steps
 pub mod Writes

@@ -17,20 +17,23 @@ use Rattle.spl_message.specs.declared.message.Message.{Message}
 use Rattle.spl_message.specs.declared.span.Span.{Span}
 use Rattle.spl_message.specs.Key.{is_below}
 use Rattle.spl_message.specs.Span.{is_before, is_from, in_span}
-use Rattle.spl_message.specs.Table.{Table, IsTable}
-use Rattle.spl_memtable.specs.Memtable.{part_of}
+use Rattle.spl_message.specs.Entries.{Entries, AreEntries}
+
+-- the entries whose keys lie in the span
+abbrev pub part_in : Span → Entries → Entries
+part_in span entries = filter (λ entry. in_span span entry.0) entries
 
 -- the first entry stays or goes with its key
-keys_of-kept : (passes : Bool) (entry : List ℕ × Message) (rest : Table) (keys : List (List ℕ)) → keys_of rest ≡ keys → keys_of (cond passes (entry ∷ rest) rest) ≡ cond passes (entry.0 ∷ keys) keys
+keys_of-kept : (passes : Bool) (entry : List ℕ × Message) (rest : Entries) (keys : List (List ℕ)) → keys_of rest ≡ keys → keys_of (cond passes (entry ∷ rest) rest) ≡ cond passes (entry.0 ∷ keys) keys
 keys_of-kept true entry rest keys is = ap (λ ks. entry.0 ∷ ks) is
 keys_of-kept false entry rest keys is = is
 
-keys_of-filter : (test : List ℕ → Bool) (table : Table) → keys_of (filter (λ entry. test entry.0) table) ≡ filter test (keys_of table)
+keys_of-filter : (test : List ℕ → Bool) (table : Entries) → keys_of (filter (λ entry. test entry.0) table) ≡ filter test (keys_of table)
 keys_of-filter test [] = refl
 keys_of-filter test (entry ∷ table) = keys_of-kept (test entry.0) entry _ _ (keys_of-filter test table)
 
-pub IsTable-filter : (test : List ℕ → Bool) (table : Table) → IsTable table → IsTable (filter (λ entry. test entry.0) table)
-IsTable-filter test table is = rw (keys_of-filter test table) (IsStrictlySortedBy-filter (slice_cmp nat_cmp) test (keys_of table) is)
+pub AreEntries-filter : (test : List ℕ → Bool) (table : Entries) → AreEntries table → AreEntries (filter (λ entry. test entry.0) table)
+AreEntries-filter test table is = rw (keys_of-filter test table) (IsStrictlySortedBy-filter (slice_cmp nat_cmp) test (keys_of table) is)
 
 -- at or above a start is not below it
 not_below : (o : Ordering) → (is_le o && true) ≡ not (is_lt (ordering_reverse o))
@@ -38,17 +41,17 @@ not_below Less = refl
 not_below Equal = refl
 not_below Greater = refl
 
-pub from_start : (start : List ℕ) (table : Table) → entries_between (slice_cmp nat_cmp) (Included start) Unbounded table ≡ filter (λ entry. is_from (Some start) entry.0) table
+pub from_start : (start : List ℕ) (table : Entries) → entries_between (slice_cmp nat_cmp) (Included start) Unbounded table ≡ filter (λ entry. is_from (Some start) entry.0) table
 from_start start table =
     filter_agree _ _ (λ entry. not_below (slice_cmp nat_cmp start entry.0) ∙ ap (λ o. not (is_lt o)) (sym (nat_list_cmp_total.antisymm entry.0 start))) table
 
 -- what passes one test and then the other passes both
-both_pass : (first second : Bool) (entry : List ℕ × Message) (rest all : Table) (test : List ℕ × Message → Bool) → test entry ≡ second → filter test rest ≡ all
+both_pass : (first second : Bool) (entry : List ℕ × Message) (rest all : Entries) (test : List ℕ × Message → Bool) → test entry ≡ second → filter test rest ≡ all
     → filter test (cond first (entry ∷ rest) rest) ≡ cond (first && second) (entry ∷ all) all
 both_pass true second entry rest all test is others = ap (λ b. cond b (entry ∷ filter test rest) (filter test rest)) is ∙ ap (λ es. cond second (entry ∷ es) es) others
 both_pass false second entry rest all test is others = others
 
-filter-filter : (span : Span) (table : Table) → filter (λ entry. is_before span.to entry.0) (filter (λ entry. is_from span.from entry.0) table) ≡ part_of span table
+pub filter-filter : (span : Span) (table : Entries) → filter (λ entry. is_before span.to entry.0) (filter (λ entry. is_from span.from entry.0) table) ≡ part_in span table
 filter-filter span [] = refl
 filter-filter span (entry ∷ table) = both_pass (is_from span.from entry.0) (is_before span.to entry.0) entry _ _ (λ e. is_before span.to e.0) refl (filter-filter span table)
 
@@ -64,18 +67,18 @@ later_too : (end : Option (List ℕ)) (first later : List ℕ) → is_before end
 later_too None first later past above = absurd (false≢true (sym past))
 later_too (Some end) first later past above = above_end first later end (slice_cmp nat_cmp later end) refl past above
 
-none_later : (end : Option (List ℕ)) (first : List ℕ) (rest : Table) → is_before end first ≡ false → AllByRecursion (λ key. slice_cmp nat_cmp first key ≡ Less) (keys_of rest) → filter (λ entry. is_before end entry.0) rest ≡ []
+pub none_later : (end : Option (List ℕ)) (first : List ℕ) (rest : Entries) → is_before end first ≡ false → AllByRecursion (λ key. slice_cmp nat_cmp first key ≡ Less) (keys_of rest) → filter (λ entry. is_before end entry.0) rest ≡ []
 none_later end first [] past above = refl
 none_later end first (entry ∷ rest) past above =
     ap (λ b. cond b (entry ∷ filter (λ e. is_before end e.0) rest) (filter (λ e. is_before end e.0) rest)) (later_too end first entry.0 past above.0) ∙ none_later end first rest past above.1
 
 -- no key is left, or the first one that is left is not before the end
-abbrev pub IsPast : Option (List ℕ) → Table → Type 0
+abbrev pub IsPast : Option (List ℕ) → Entries → Type 0
 IsPast end [] = Unit {0}
 IsPast end (entry ∷ rest) = is_before end entry.0 ≡ false
 
 -- the keys before the end are those in front of the first that is not
-cut : (end : Option (List ℕ)) (front rest : Table) → IsTable (front ++ rest) → All (λ entry. is_before end entry.0 ≡ true) front → IsPast end rest → filter (λ entry. is_before end entry.0) (front ++ rest) ≡ front
+cut : (end : Option (List ℕ)) (front rest : Entries) → AreEntries (front ++ rest) → All (λ entry. is_before end entry.0 ≡ true) front → IsPast end rest → filter (λ entry. is_before end entry.0) (front ++ rest) ≡ front
 cut end [] [] order before past = refl
 cut end [] (entry ∷ rest) order before past =
     ap (λ b. cond b (entry ∷ filter (λ e. is_before end e.0) rest) (filter (λ e. is_before end e.0) rest)) past
@@ -85,11 +88,11 @@ cut end (entry ∷ front) rest order before past =
     ∙ ap (λ es. entry ∷ es) (cut end front rest (sorted_tail (slice_cmp nat_cmp) entry.0 (keys_of (front ++ rest)) order) (All-tail (λ e. is_before end e.0 ≡ true) entry front before) past)
 
 -- what was read from the start on, up to the first key that is not before the end, is the part of the span
-pub is_part : (span : Span) (table front rest : Table) → IsTable table → front ++ rest ≡ filter (λ entry. is_from span.from entry.0) table
-    → All (λ entry. is_before span.to entry.0 ≡ true) front → IsPast span.to rest → front ≡ part_of span table
+pub is_part : (span : Span) (table front rest : Entries) → AreEntries table → front ++ rest ≡ filter (λ entry. is_from span.from entry.0) table
+    → All (λ entry. is_before span.to entry.0 ≡ true) front → IsPast span.to rest → front ≡ part_in span table
 is_part span table front rest order all before past =
-    let sorted = subst IsTable (sym all) (IsTable-filter (is_from span.from) table order) in
+    let sorted = subst AreEntries (sym all) (AreEntries-filter (is_from span.from) table order) in
     sym (cut span.to front rest sorted before past) ∙ ap (λ es. filter (λ entry. is_before span.to entry.0) es) all ∙ filter-filter span table
 
-pub IsTable-part_of : (span : Span) (table : Table) → IsTable table → IsTable (part_of span table)
-IsTable-part_of span table order = IsTable-filter (in_span span) table order
+pub AreEntries-part_in : (span : Span) (table : Entries) → AreEntries table → AreEntries (part_in span table)
+AreEntries-part_in span table order = AreEntries-filter (in_span span) table order

@@ -15,13 +15,13 @@ use Rattle.std.specs.List.Sorted.{IsNonDecreasingBy, IsPartitionPoint, IsSortedB
 use Rattle.std.specs.Map.{keys_of}
 use Rattle.std.specs.Ordering.{nat_cmp, is_lt, ordering_index, ordering_reverse}
 use Rattle.spl_message.specs.declared.message.Message.{Message}
-use Rattle.spl_message.specs.Table.{Table, IsTable, message_at}
+use Rattle.spl_message.specs.Entries.{Entries, AreEntries, message_in}
 
 -- how an entry's key compares to another key
 abbrev pub rank : List ℕ → List ℕ × Message → Ordering
 rank key entry = slice_cmp nat_cmp entry.0 key
 
-module _ (table : Table) (order : IsTable table) where
+module _ (table : Entries) (order : AreEntries table) where
   next_above : (i : ℕ) (d : List ℕ × Message) → i + 1 < length table → slice_cmp nat_cmp (get_or table i d).0 (get_or table (i + 1) d).0 ≡ Less
   next_above i d within =
       let inside : i + 1 < length (keys_of table) = rw (length-keys_of table) within in
@@ -38,12 +38,12 @@ module _ (table : Table) (order : IsTable table) where
   rises key = searchable_from_sorted nat_list_cmp_total (λ (e : List ℕ × Message). e.0) table key in_order
 
   -- the entry with the key has its message
-  pub found : (key : List ℕ) (i : ℕ) (entry : List ℕ × Message) → slice_get table i ≡ Some entry → rank key entry ≡ Equal → message_at table key ≡ Some entry.1
+  pub found : (key : List ℕ) (i : ℕ) (entry : List ℕ × Message) → slice_get table i ≡ Some entry → rank key entry ≡ Equal → message_in table key ≡ Some entry.1
   found key i entry is same = lookup_from_place (eq_by_cmp_equiv nat_list_cmp_total) table i key entry.1 (IsDistinct-from_sorted (slice_cmp nat_cmp) (keys_of table) order)
       (subst (λ (k : List ℕ). slice_get table i ≡ Some (k, entry.1)) (exact_bytes entry.0 key same) is)
 
   -- where the keys below end and those above begin there is none
-  pub missing : (key : List ℕ) (i : ℕ) → (IsNonDecreasingBy (λ entry. ordering_index (rank key entry)) table → IsPartitionPoint (λ entry. rank key entry ≡ Less) (λ entry. rank key entry ≡ Greater) table i) → message_at table key ≡ None
+  pub missing : (key : List ℕ) (i : ℕ) → (IsNonDecreasingBy (λ entry. ordering_index (rank key entry)) table → IsPartitionPoint (λ entry. rank key entry ≡ Less) (λ entry. rank key entry ≡ Greater) table i) → message_in table key ≡ None
   missing key i parted =
       let point = parted (rises key) in
       let turned : (entry : List ℕ × Message) → slice_cmp nat_cmp key entry.0 ≡ ordering_reverse (rank key entry) = λ entry. nat_list_cmp_total.antisymm key entry.0 in

@@ -1,1 +1,3 @@
 pub mod Memtable
+pub mod Slice
+pub mod Left

@@ -1,14 +1,14 @@
-ghost use Rattle.std.specs.Prelude.{◌≡◌, ◌≤◌, length, IfOk};
+ghost use Rattle.std.specs.Prelude.{◌≡◌, ℕ, List, if◌then◌else◌, ◌≤◌, None, IfOk};
 ghost use Rattle.std.specs.Option.{option_copied};
-ghost use Rattle.spl_message.specs.Table.{IsTable, message_at};
-ghost use Rattle.spl_memtable.specs.Memtable.{part_of};
-ghost use Rattle.spl_memtable.specs.declared.memtable.TheConstants.{MEMTABLE_KEYS};
+ghost use Rattle.spl_message.specs.Span.{in_span};
+ghost use Rattle.spl_message.specs.Table.{IsTable, key_count, message_at, part_of};
 
-use crate::{Memtable, Slice};
+use crate::{Entries, Memtable, Slice};
 use spl_message::{Key, Message, NoMemory, Span};
 use std::marker::Model;
+use std::sync::Arc;
 
-/// A memtable that takes no more messages. A clause sees the table that it has.
+/// A memtable that takes no more messages, so that many may share it. A clause sees the table that it has.
 #[derive(Debug, Drop)]
 pub struct Frozen {
     memtable: Memtable,
@@ -38,17 +38,28 @@ impl Frozen {
 
     /// How many keys there are.
     pub fn keys(&self) -> u32
-        ensures value { result ≡ length self.now }
-        ensures limit { result ≤ MEMTABLE_KEYS }
+        ensures value { result ≡ key_count self.now }
+        ensures limit { result ≤ 1024 }
         ensures order { IsTable self.now }
     {
         self.memtable.keys()
     }
 
-    /// The keys of the span with copies of their messages, in order.
-    pub fn slice(&self, span: &Span) -> Result<Slice, NoMemory>
-        ensures { IfOk result (λ slice. slice ≡ part_of span.now self.now) }
+    /// The keys and messages of the span, in order.
+    pub fn entries(&self, span: &Span) -> Entries<'_>
+        ensures value { result ≡ (part_of span.now self.now).messages }
+        ensures order { IsTable (part_of span.now self.now) }
     {
-        self.memtable.slice(span)
+        self.memtable.entries(span)
+    }
+
+    /// The part of the span, which shares this table: no message is copied.
+    pub fn slice(self: &Arc<Frozen>, span: &Span) -> Result<Slice, NoMemory>
+        ensures part { IfOk result (λ slice. slice ≡ part_of span.now self.now.value) }
+        ensures messages { IfOk result (λ slice. (key : List ℕ)
+            → message_at slice key ≡ (if in_span span.now key then message_at self.now.value key else None)) }
+    {
+        let frozen = self.clone()?;
+        Ok(Slice::shared(frozen, *span))
     }
 }

@@ -1,14 +1,14 @@
-ghost use Rattle.std.specs.Prelude.{◌≡◌, ◌≤◌, ◌↔◌, [], ◌∷◌, ◌++◌, filter, length, option_to_list, IfOk, OnErr};
+ghost use Rattle.std.specs.Prelude.{◌≡◌, ℕ, List, if◌then◌else◌, ◌≤◌, ◌↔◌, [], ◌∷◌, ◌++◌, filter, IsOk, None, Some, IfOk, OnErr};
 ghost use Rattle.std.specs.Option.{option_copied};
-ghost use Rattle.spl_message.specs.Message.{combine_all};
-ghost use Rattle.spl_message.specs.Span.{is_before, is_from};
-ghost use Rattle.spl_message.specs.Table.{IsTable, message_at};
-ghost use Rattle.spl_memtable.specs.Memtable.{IsFull, Puts, part_of};
+ghost use Rattle.spl_message.specs.Entries.{AreEntries};
+ghost use Rattle.spl_message.specs.Message.{combine, IsUpdate};
+ghost use Rattle.spl_message.specs.Span.{in_span, is_from};
+ghost use Rattle.spl_message.specs.Table.{IsTable, as_table, key_count, message_at, part_of};
+ghost use Rattle.spl_memtable.specs.Memtable.{IsFull, Puts};
 
-use crate::{Frozen, Slice};
-use spl_message::{Bound, Key, MergeLaw, Message, NoMemory, Span, combine};
+use crate::{Entries, Frozen, Slice};
+use spl_message::{Key, MergeLaw, Message, NoMemory, Span, combine};
 use std::alloc::Global;
-use std::cmp::Ordering;
 use std::collections::BTreeMap;
 use std::collections::btree_map::Range;
 use std::marker::Model;
@@ -26,14 +26,13 @@ pub struct Memtable {
 
 impl Model for Memtable {
     ghost use Rattle.std.specs.Prelude.{◌≤◌, length};
-    ghost use Rattle.spl_message.specs.Table.{Table};
-    ghost use Rattle.spl_memtable.specs.declared.memtable.TheConstants.{MEMTABLE_KEYS};
+    ghost use Rattle.spl_message.specs.Table.{Table, as_table};
 
     ghost Value = { Table };
 
-    ghost view = { λ m. m.entries.entries };
+    ghost view = { λ m. as_table m.entries.entries };
 
-    ghost invariant = { λ m. length m.entries.entries ≤ MEMTABLE_KEYS };
+    ghost invariant = { λ m. length m.entries.entries ≤ 1024 };
 }
 
 /// What came of a message.
@@ -48,7 +47,7 @@ pub enum Put {
 impl Memtable {
     /// A memtable with no keys, which takes no memory.
     pub fn new(alloc: Global) -> Memtable
-        ensures { result ≡ [] }
+        ensures { result ≡ as_table [] }
     {
         Memtable {
             entries: BTreeMap::new(alloc),
@@ -56,25 +55,27 @@ impl Memtable {
         }
     }
 
-    /// Adds the message to what the key has.
+    /// Adds the message to what the key has. Only a new key, or an update of one that is there, takes memory.
     pub fn put<L: MergeLaw>(
         &mut self,
         law: &L,
         key: &Key,
-        message: &Message,
+        message: Message,
     ) -> Result<Put, NoMemory>
         requires { L.ready law.now }
         ensures full { (result ≡ Ok Put.Full) ↔ IsFull self.old key.now }
         ensures unchanged { result ≡ Ok Put.Full → self.new ≡ self.old }
-        ensures done { result ≡ Ok Put.Done → Puts (L.rule law.now) self.old self.new key.now message.now }
+        ensures done { result ≡ Ok Put.Done → Puts (L.rule law.now) self.old self.new key.now message }
         ensures err { OnErr result (self.new ≡ self.old) }
     {
-        let older = self.entries.get(key);
-        if older.is_none() && self.keys() == MEMTABLE_KEYS {
+        if let Some(older) = self.entries.get_mut(key) {
+            *older = joined(self.alloc, law, key, older, message)?;
+            return Ok(Put::Done);
+        }
+        if self.keys() == MEMTABLE_KEYS {
             return Ok(Put::Full);
         }
-        let both = added(self.alloc, law, key, older, message)?;
-        self.entries.insert(*key, both)?;
+        self.entries.insert(*key, message)?;
         Ok(Put::Done)
     }
 
@@ -87,22 +88,29 @@ impl Memtable {
 
     /// How many keys there are.
     pub fn keys(&self) -> u32
-        ensures value { result ≡ length self.now }
-        ensures limit { result ≤ MEMTABLE_KEYS }
+        ensures value { result ≡ key_count self.now }
+        ensures limit { result ≤ 1024 }
         ensures order { IsTable self.now }
     {
         self.entries.len() as u32
     }
 
-    /// The keys of the span with copies of their messages, in order.
+    /// The keys and messages of the span, in order.
+    pub fn entries(&self, span: &Span) -> Entries<'_>
+        ensures value { result ≡ (part_of span.now self.now).messages }
+        ensures order { IsTable (part_of span.now self.now) }
+    {
+        Entries::of_range(entries_from(&self.entries, &span.from), span.to)
+    }
+
+    /// The part of the span, with copies of its messages.
     pub fn slice(&self, span: &Span) -> Result<Slice, NoMemory>
-        ensures { IfOk result (λ slice. slice ≡ part_of span.now self.now) }
+        ensures part { IfOk result (λ slice. slice ≡ part_of span.now self.now) }
+        ensures messages { IfOk result (λ slice. (key : List ℕ)
+            → message_at slice key ≡ (if in_span span.now key then message_at self.now key else None)) }
     {
         let mut entries = Vec::new(self.alloc);
-        for (key, message) in entries_from(&self.entries, &span.from) {
-            if !ends_after(&span.to, key) {
-                break;
-            }
+        for (key, message) in self.entries(span) {
             entries.push((*key, message.copy()?))?;
         }
         Ok(Slice::of(entries))
@@ -116,21 +124,21 @@ impl Memtable {
     }
 }
 
-/// What the key has after the message, in memory of its own.
-fn added<L: MergeLaw>(
+/// What a key has after the message. An insert or a delete is what it is.
+fn joined<L: MergeLaw>(
     alloc: Global,
     law: &L,
     key: &Key,
-    older: Option<&Message>,
-    message: &Message,
+    older: &Message,
+    message: Message,
 ) -> Result<Message, NoMemory>
     requires { L.ready law.now }
-    ensures { IfOk result (λ both.
-        combine_all (L.rule law.now) key.now (option_to_list (option_copied older.entry) ++ message.now ∷ []) ≡ Some both) }
+    ensures value { IfOk result (λ both. both ≡ combine (L.rule law.now) key.now older.now message) }
+    ensures free { ¬ (IsUpdate (Some message)) → IsOk result }
 {
-    match older {
-        Some(older) => combine(alloc, law, key, older, message),
-        None => message.copy(),
+    match &message {
+        Message::Update(_) => combine(alloc, law, key, older, &message),
+        Message::Insert(_) | Message::Delete => Ok(message),
     }
 }
 
@@ -140,21 +148,11 @@ fn entries_from<'a>(
     start: &Option<Key>,
 ) -> Range<'a, Key, Message>
     ensures start { result ≡ filter (λ entry. is_from start.now entry.0) entries.now.entries }
-    ensures order { IsTable entries.now.entries }
+    ensures order { AreEntries entries.now.entries }
 {
     let start = match start {
         Some(key) => ops::Bound::Included(*key),
         None => ops::Bound::Unbounded,
     };
     entries.range((start, ops::Bound::Unbounded))
-}
-
-/// Whether the key is below the end, if there is one.
-fn ends_after(end: &Option<Bound>, key: &Key) -> bool
-    ensures { result ≡ is_before end.now key.now }
-{
-    match end {
-        Some(end) => key.bytes().cmp(&end.bytes()) == Ordering::Less,
-        None => true,
-    }
 }

@@ -1,6 +1,7 @@
 use super::*;
 use spl_message::{Bound, Key, Message, Newest, Span, Value};
 use std::alloc::Global;
+use std::sync::Arc;
 use std::test::Fail;
 
 const EVERYTHING: Span = Span {
@@ -28,11 +29,20 @@ fn filled(alloc: Global) -> Result<Memtable, Fail> {
     let mut memtable = Memtable::new(alloc);
     for number in 0..1024u16 {
         let key = Key::read(&number.to_be_bytes())?;
-        if memtable.put(&Newest, &key, &Message::Delete)? == Put::Full {
+        if memtable.put(&Newest, &key, Message::Delete)? == Put::Full {
             break;
         }
     }
     Ok(memtable)
+}
+
+/// How many keys the slice has.
+fn counted(slice: &Slice) -> u32 {
+    let mut count = 0u32;
+    for _ in slice.entries() {
+        count = count.saturating_add(1);
+    }
+    count
 }
 
 #[test]
@@ -41,12 +51,13 @@ fn a_full_memtable_takes_messages_of_its_keys_alone(rt: HostRuntime) -> Result<(
     let mut memtable = filled(alloc)?;
     let present = Key::read(&[0, 7])?;
     let absent = Key::read(&[4, 0])?;
-    let update = message(alloc, "+3")?;
     assert_eq!(rt; memtable.keys(), 1024);
-    assert_eq!(rt; memtable.put(&Newest, &absent, &update)?, Put::Full);
+    let update = message(alloc, "+3")?;
+    assert_eq!(rt; memtable.put(&Newest, &absent, update)?, Put::Full);
     assert_eq!(rt; memtable.get(&absent), None);
-    assert_eq!(rt; memtable.put(&Newest, &present, &update)?, Put::Done);
-    assert_eq!(rt; memtable.slice(&EVERYTHING)?.entries().len(), 1024);
+    let update = message(alloc, "+3")?;
+    assert_eq!(rt; memtable.put(&Newest, &present, update)?, Put::Done);
+    assert_eq!(rt; counted(&memtable.slice(&EVERYTHING)?), 1024);
     Ok(())
 }
 
@@ -57,12 +68,14 @@ fn shared<T: Send + Sync>(value: &T) -> &T {
 
 #[test]
 fn freezing_keeps_what_is_there(rt: HostRuntime) -> Result<(), Fail> {
-    let frozen = filled(rt.alloc())?.freeze();
-    let frozen = shared(&frozen);
+    let key = Key::read(&[0, 7])?;
+    let frozen = Arc::new(rt.alloc(), filled(rt.alloc())?.freeze())?;
     assert_eq!(rt; frozen.keys(), 1024);
-    assert_eq!(rt; frozen.get(&Key::read(&[0, 7])?), Some(&Message::Delete));
+    assert_eq!(rt; shared(&frozen).get(&key), Some(&Message::Delete));
     let slice = frozen.slice(&EVERYTHING)?;
-    assert_eq!(rt; shared(&slice).entries().len(), 1024);
+    drop(frozen);
+    assert_eq!(rt; counted(shared(&slice)), 1024);
+    assert_eq!(rt; slice.get(&key), Some(&Message::Delete));
     Ok(())
 }
 
@@ -70,8 +83,8 @@ fn freezing_keeps_what_is_there(rt: HostRuntime) -> Result<(), Fail> {
 fn joined(alloc: Global, older: &str, newer: &str) -> Result<Option<Message>, Fail> {
     let key = key("a")?;
     let mut memtable = Memtable::new(alloc);
-    memtable.put(&Newest, &key, &message(alloc, older)?)?;
-    memtable.put(&Newest, &key, &message(alloc, newer)?)?;
+    memtable.put(&Newest, &key, message(alloc, older)?)?;
+    memtable.put(&Newest, &key, message(alloc, newer)?)?;
     match memtable.get(&key) {
         Some(both) => Ok(Some(both.copy()?)),
         None => Ok(None),
@@ -117,9 +130,12 @@ fn keys_of(alloc: Global, slice: &Slice) -> Result<Vec<u8>, Fail> {
 fn a_slice_has_the_keys_of_its_span(rt: HostRuntime) -> Result<(), Fail> {
     let alloc = rt.alloc();
     let mut memtable = Memtable::new(alloc);
+    let mut same = Memtable::new(alloc);
     for text in ["c", "a", "d", "b"] {
-        memtable.put(&Newest, &key(text)?, &Message::Delete)?;
+        memtable.put(&Newest, &key(text)?, Message::Delete)?;
+        same.put(&Newest, &key(text)?, Message::Delete)?;
     }
+    let frozen = Arc::new(alloc, same.freeze())?;
     for (from, to, keys) in [
         ("", "", "abcd"),
         ("b", "", "bcd"),
@@ -130,10 +146,11 @@ fn a_slice_has_the_keys_of_its_span(rt: HostRuntime) -> Result<(), Fail> {
         ("b", "b", ""),
         ("c", "b", ""),
     ] {
-        let entries = memtable.slice(&span(from, to))?.into_vec();
-        let slice = Slice::of(entries);
-        assert_eq!(rt; keys_of(alloc, &slice)?.as_slice(), keys.as_bytes());
-        assert_eq!(rt; slice.get(&key("0")?), None);
+        let span = span(from, to);
+        for slice in [memtable.slice(&span)?, frozen.slice(&span)?] {
+            assert_eq!(rt; keys_of(alloc, &slice)?.as_slice(), keys.as_bytes());
+            assert_eq!(rt; slice.get(&key("0")?), None);
+        }
     }
     Ok(())
 }

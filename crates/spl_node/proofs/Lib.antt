@@ -1,3 +1,4 @@
 pub mod Walks
 pub mod Starts
 pub mod Nodes
+pub mod Places

@@ -58,6 +58,13 @@ impl Numbers {
         })
     }
 
+    /// The numbers are below this one.
+    pub fn limit(&self) -> u32
+        ensures { result ≡ length self.now }
+    {
+        self.limit
+    }
+
     /// How many numbers the set has.
     pub fn count(&self) -> u32
         ensures { result ≡ size_of self.now }

@@ -1,13 +1,21 @@
 use super::*;
+use std::process::Abort;
 use std::test::Fail;
+
+fn add(rt: &impl Abort, numbers: &mut Numbers, number: u32) {
+    let limit = numbers.limit();
+    assert!(rt; number < limit);
+    let there = numbers.has(number);
+    assert!(rt; !there);
+    numbers.insert(number);
+}
 
 #[test]
 fn a_list_with_a_number_twice_is_not_the_set(rt: HostRuntime) -> Result<(), Fail> {
     let mut numbers = Numbers::new(rt.alloc(), LIMIT)?;
     assert_eq!(rt; numbers.any(), None);
     for number in [65_535, 4_096, 63] {
-        assert!(rt; !numbers.has(number));
-        numbers.insert(number);
+        add(&rt, &mut numbers, number);
     }
     assert_eq!(rt; numbers.count(), 3);
     for (list, want) in [
@@ -27,19 +35,16 @@ fn a_list_with_a_number_twice_is_not_the_set(rt: HostRuntime) -> Result<(), Fail
 fn each_number_is_met_once_while_they_are_removed(rt: HostRuntime) -> Result<(), Fail> {
     let mut numbers = Numbers::new(rt.alloc(), 40_000)?;
     for number in 0..200 {
-        assert!(rt; !numbers.has(number * number));
-        numbers.insert(number * number);
+        add(&rt, &mut numbers, number * number);
     }
-    let mut sum = 0;
-    let mut met = 0;
-    while let Some(number) = numbers.any()
-        && met < 300
-    {
+    let mut sum = 0u64;
+    for _ in 0..200 {
+        let number = numbers.any().ok_or("a number is lost")?;
         numbers.remove(number);
-        sum += number as u64;
-        met += 1;
+        sum = sum.wrapping_add(number as u64);
     }
-    assert_eq!(rt; (met, sum), (200, 2_646_700));
+    assert_eq!(rt; sum, 2_646_700);
+    assert_eq!(rt; numbers.any(), None);
     assert_eq!(rt; numbers.count(), 0);
     Ok(())
 }

@@ -1,11 +1,10 @@
 -- Keys that rise are searched by halves.
-use Rattle.std.proofs.Common.{◌≡◌, ℕ, zero, suc, ◌+◌, ◌<◌, ◌≤◌, Bool, true, false, cond, List, [], ◌∷◌, Option, Some, None, length, refl, sym, ap, ◌∙◌, arith}
+use Rattle.std.proofs.Common.{◌≡◌, ℕ, zero, suc, ◌<◌, ◌≤◌, Bool, true, false, cond, List, [], ◌∷◌, Some, length, ap, ◌∙◌, arith}
 use Rattle.std.specs.List.{slice_get, AllByRecursion}
 use Rattle.std.specs.List.Sorted.{IsStrictlySortedBy}
 use Rattle.std.specs.Ordering.{nat_cmp, is_lt}
 use Rattle.std.specs.Cmp.Lexicographic.{slice_cmp, nat_list_cmp_total}
-use Rattle.std.specs.declared.cmp.Ordering.TheVariants.{Less, Equal, Greater}
-use Rattle.std.proofs.lemmas.Bool.{false≢true}
+use Rattle.std.specs.declared.cmp.Ordering.TheVariants.{Less}
 use Rattle.spl_message.specs.Key.{AreRising, is_below}
 use Rattle.spl_page.proofs.Rising.{less_is}
 use Rattle.spl_page.specs.Sound.{count_below}

@@ -6,8 +6,8 @@ use Rattle.std.specs.Ordering.{nat_cmp, is_lt}
 use Rattle.std.specs.Cmp.Lexicographic.{slice_cmp}
 use Rattle.std.proofs.lemmas.List.{drop-drop, length-drop, map_push, take_more_set}
 use Rattle.std.proofs.lemmas.List.Elements.{All-append, All-cons, All-nil}
-use Rattle.spl_port.specs.Page.{Rows, is_rising, row_count}
-use Rattle.spl_page.specs.Sound.{AreStarts, IsScan, entries_of, page_rows, read_at}
+use Rattle.spl_port.specs.Page.{is_rising, row_count}
+use Rattle.spl_page.specs.Sound.{IsScan, entries_of, page_rows, read_at}
 use Rattle.spl_page.specs.Tables.{found_rows}
 use Rattle.spl_page.proofs.Rows.{whole}
 use Rattle.spl_page.proofs.Searching.{Seen, seen_all, seen_more, seen_none, seen_stops}

@@ -1,5 +1,5 @@
 -- Index pages as lists of children.
-use Rattle.std.specs.Prelude.{◌≡◌, ℕ, ◌+◌, ◌-◌, ◌^◌, ◌≤◌, min, Bool, IsTrue, List, ◌∷◌, ◌++◌, length, drop, map, sum_by, Some}
+use Rattle.std.specs.Prelude.{◌≡◌, ℕ, ◌+◌, ◌-◌, ◌^◌, ◌≤◌, min, IsTrue, List, ◌∷◌, ◌++◌, length, drop, map, sum_by, Some}
 use Rattle.byteorder.specs.Endian.{big_bytes}
 use Rattle.spl_port.specs.Page.{IndexRow, index_rows, is_rising}
 use Rattle.spl_page.specs.declared.index_entry.IndexEntry.{IndexEntry}

@@ -1,12 +1,10 @@
 -- Entries where they stand in a page, and what a search of a page comes to.
-use Rattle.std.specs.Prelude.{◌≡◌, ℕ, ◌+◌, Bool, List, length, map, Option, Some}
-use Rattle.std.specs.Option.{option_map}
+use Rattle.std.specs.Prelude.{ℕ, ◌+◌, length}
 use Rattle.spl_message.specs.declared.message.Message.{Message}
-use Rattle.spl_message.specs.Entries.{message_in}
-use Rattle.spl_port.specs.Page.{IndexRow, LeafRow, index_rows, is_rising, leaf_rows}
+use Rattle.spl_port.specs.Page.{IndexRow, LeafRow}
 use Rattle.spl_page.specs.declared.index_slot.IndexSlot.{IndexSlot}
 use Rattle.spl_page.specs.declared.leaf_slot.LeafSlot.{LeafSlot}
-use Rattle.spl_page.specs.Tables.{child_for, child_keys, children, found_rows, leaf_table, message_of}
+use Rattle.spl_page.specs.Tables.{message_of}
 
 -- the entries as the page grammar has them
 abbrev pub leaf_slot_row : LeafSlot → LeafRow

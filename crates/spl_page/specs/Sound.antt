@@ -1,6 +1,6 @@
 -- Pages that were checked, over what an entry of a page is: how an entry at the front of some bytes is read, how many bytes it has,
 -- and its key.
-use Rattle.std.specs.Prelude.{◌≡◌, ℕ, ◌<◌, ◌≤◌, Bool, List, [], ◌∷◌, All, length, take, drop, map, Option, Some, None, if◌then◌else◌, suc}
+use Rattle.std.specs.Prelude.{◌≡◌, ℕ, ◌<◌, ◌≤◌, Bool, List, [], ◌∷◌, All, take, drop, map, Option, Some, None, if◌then◌else◌, suc}
 use Rattle.spl_message.specs.Key.{is_below}
 use Rattle.spl_port.specs.declared.at.At.{At}
 use Rattle.std.specs.List.{slice_get}

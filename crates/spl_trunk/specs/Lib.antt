@@ -1,1 +1,2 @@
 pub mod Trunk
+pub mod Tree

@@ -5,6 +5,7 @@ ghost use Rattle.spl_bundle.specs.Numbered.{next_of, pushed, merged, marked, rel
 ghost use Rattle.spl_node.specs.Node.{bare, pivot_at, AreRising, StartsIn, IsMark};
 ghost use Rattle.spl_node.specs.Steps.{fresh, with_lists, with_pivots, with_mark, trimmed, IsSplitKey, left_of, lifted};
 ghost use Rattle.spl_trunk.specs.Trunk.{node_at, with_node};
+ghost use Rattle.spl_trunk.specs.Tree.{IsShaped};
 
 use crate::grow::Grow;
 use spl_base::NoMemory;
@@ -41,7 +42,8 @@ impl Model for Trunk {
 impl Trunk {
     /// A trunk of one leaf, the root.
     pub fn new(alloc: Global) -> Result<Trunk, NoMemory>
-        ensures { IfOk result (λ trunk. trunk ≡ fresh 0 bare ∷ []) }
+        ensures leaf { IfOk result (λ trunk. trunk ≡ fresh 0 bare ∷ []) }
+        ensures shaped { IfOk result IsShaped }
     {
         let mut nodes = Vec::new(alloc);
         nodes.push(Node::leaf(alloc)?)?;

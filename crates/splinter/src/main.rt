@@ -1,10 +1,16 @@
 //! The program over standard input and output: see `spl_top` for what it promises.
 //!
-//! This file is the trusted edge: no clause can say what standard input gives, nor what standard output takes.
+//! `main` is the trusted edge: no clause can say what standard input gives, nor what standard output takes.
 #![tactic(auto)]
 
-use spl_port::{Failed, Sink, StdSink, StdSource, write_whole};
+ghost use Rattle.std.specs.Prelude.{◌⊎◌, codes};
+ghost use Rattle.std.specs.Process.{exit_status};
+ghost use Rattle.spl_message.specs.Rule.{newest};
+ghost use Rattle.spl_top.specs.Top.{Ends, Tells};
+
+use spl_port::{Failed, Sink, Source, StdSink, StdSource, write_whole};
 use spl_top::splinter;
+use std::alloc::Global;
 use std::process::ExitCode;
 use std::rt::Env;
 use std::{env, io};
@@ -19,7 +25,10 @@ fn words<R: Env + AllocGlobal>(rt: &R) -> io::Result<Vec<String>> {
 }
 
 /// Tells why there are no words: a word is no text, or memory ran out.
-fn refuse(fault: io::Error, out: &mut impl Sink) -> u8 {
+fn refuse<O: Sink>(fault: io::Error, out: &mut O) -> u8
+    ensures { Tells (O.means out.old) (O.means out.new) 1 (codes "words\n") result
+        ⊎ Tells (O.means out.old) (O.means out.new) 7 (codes "memory\n") result }
+{
     let (text, status) = match fault.kind() {
         io::ErrorKind::OutOfMemory => ("memory\n", 7),
         _ => ("words\n", 1),
@@ -30,12 +39,23 @@ fn refuse(fault: io::Error, out: &mut impl Sink) -> u8 {
     }
 }
 
+/// The status of the process, which is that of the top call.
+fn ended<I: Source, O: Sink>(
+    alloc: Global,
+    words: &[String],
+    input: &mut I,
+    out: &mut O,
+) -> ExitCode
+    ensures { Ends newest 1 words.now (I.means input.old) (I.means input.new) (O.means out.old) (O.means out.new) (exit_status result) }
+{
+    ExitCode::from(splinter(alloc, words, input, out))
+}
+
 fn main(rt: HostRuntime) -> ExitCode {
     let mut input = StdSource::new(rt.reader());
     let mut out = StdSink::new(io::writer(&rt));
-    let status = match words(&rt) {
-        Ok(words) => splinter(rt.alloc(), words.as_slice(), &mut input, &mut out),
-        Err(fault) => refuse(fault, &mut out),
-    };
-    ExitCode::from(status)
+    match words(&rt) {
+        Ok(words) => ended(rt.alloc(), words.as_slice(), &mut input, &mut out),
+        Err(fault) => ExitCode::from(refuse(fault, &mut out)),
+    }
 }

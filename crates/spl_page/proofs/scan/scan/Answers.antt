@@ -1,4 +1,4 @@
-use Rattle.std.proofs.Common.{ap, ◌∙◌, ◌<◌, length, arith}
+use Rattle.std.proofs.Common.{ap, ◌∙◌}
 use Rattle.std.specs.Ordering.{is_lt}
 use Rattle.spl_page.proofs.Numbers.{rest_is}
 use Rattle.spl_page.proofs.Scanning.{scanned_all, scanned_more, scanned_none, scanned_stops}

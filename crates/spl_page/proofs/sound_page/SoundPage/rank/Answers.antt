@@ -1,8 +1,8 @@
-use Rattle.std.proofs.Common.{◌≡◌, ◌≤◌, true, false, length, map, ap, sym, ◌∙◌, arith}
+use Rattle.std.proofs.Common.{◌≡◌, true, false, map, ap, sym, ◌∙◌, arith}
 use Rattle.std.specs.Ordering.{is_lt}
 use Rattle.std.proofs.lemmas.List.{length-map}
 use Rattle.spl_message.specs.Key.{is_below}
-use Rattle.spl_page.specs.Sound.{count_below, entries_of}
+use Rattle.spl_page.specs.Sound.{entries_of}
 use Rattle.spl_page.proofs.Halves.{count_goes_on, count_stops, count_within}
 use Rattle.spl_page.proofs.sound_page.SoundPage.rank.Goals as goal
 
