@@ -6,8 +6,8 @@ use spl_branch::Branch;
 use spl_cache::Cache;
 use spl_port::{MemPort, MemSeal};
 use std::alloc::Global;
-use std::rt::{Clock, Threads};
-use std::thread::join;
+use std::rt::Clock;
+use std::thread::{Threads, join};
 
 /// Room for some 3 million keys' pages.
 const SETS: u32 = 1024;
@@ -41,7 +41,10 @@ fn alone(alloc: Global, branch: &Branch<MemSeal>, cache: &Cache, count: u32) -> 
 }
 
 /// Times four threads that look keys up at the same time.
-pub fn measure_shared<R: Clock + Print + AllocGlobal + Threads>(rt: &R, count: u32) -> Result<()> {
+pub fn measure_shared<R: Clock + Print + AllocGlobal + Threads + Sync>(
+    rt: &R,
+    count: u32,
+) -> Result<()> {
     let alloc = rt.alloc();
     let mut port = MemPort::new(alloc);
     let branch = built(rt, &mut port, count)?;

@@ -1,6 +1,6 @@
 //! Keys in a memtable and in a filter.
 use crate::timed::Timed;
-use anyhow::Result;
+use anyhow::{Result, ensure};
 use spl_memtable::Memtable;
 use spl_message::{Key, Message, Newest, NoMemory, Value};
 use spl_quotient::Filter;
@@ -8,6 +8,9 @@ use std::alloc::Global;
 use std::rt::Clock;
 
 const ROUNDS: u32 = 100;
+
+/// At most so many keys are taken.
+const MOST: usize = 1_000_000;
 
 /// Keys in no order: the numbers' four bytes behind eight that all share, or alone.
 fn keys(alloc: Global, count: u32, shared: bool) -> Result<Vec<Key>, NoMemory> {
@@ -58,16 +61,18 @@ fn measure_family<R: Clock + Print + AllocGlobal>(rt: &R, count: u32, shared: bo
     let timed = Timed::start(rt)?;
     let held = puts(alloc, keys.as_slice())?;
     timed.tell(rt, "put a new key", calls, held)?;
-    let filter = Filter::build(alloc, keys.as_slice())?;
+    let keys = keys.as_slice();
+    ensure!(keys.len() <= MOST, "too many keys");
+    let filter = Filter::build(alloc, keys)?;
     let timed = Timed::start(rt)?;
-    let count = admitted(&filter, keys.as_slice());
+    let count = admitted(&filter, keys);
     timed.tell(rt, "ask a filter for a key that it has", calls, count)?;
     Ok(())
 }
 
 /// Times so many keys, with a shared front and without one.
 pub fn measure<R: Clock + Print + AllocGlobal>(rt: &R, count: u32) -> Result<()> {
-    let count = count.min(1_000_000);
+    let count = count.min(MOST as u32);
     measure_family(rt, count, false)?;
     measure_family(rt, count, true)
 }
