@@ -49,6 +49,40 @@ fn rises(last: &Option<Key>, key: &Key) -> bool
     }
 }
 
+/// What the branch has for the key.
+fn look<P: Port>(
+    branch: &Branch<P::Seal>,
+    port: &mut P,
+    key: &Key,
+) -> Result<Option<Message>, BranchFault>
+    ensures { (P.counts port.old).reads ≤ (P.counts port.new).reads }
+{
+    branch.get(port, &Direct, &HashedKey::of(key))
+}
+
+/// Adds the key with the message, for which there is room.
+fn add<P: Port>(
+    rt: &impl Abort,
+    builder: &mut Builder<P>,
+    port: &mut P,
+    key: &Key,
+    message: &Message,
+) -> Result<(), BuildFault>
+    requires stage { builder.old.stage ≡ Adding }
+    requires stopped { builder.old.stopped ≡ None }
+    requires rising { IfSome builder.old.last (λ last. is_below last key.now ≡ true) }
+    ensures stage { OnOk result (builder.new.stage ≡ Adding) }
+    ensures stopped { OnOk result (builder.new.stopped ≡ None) }
+    ensures last { OnOk result (builder.new.last ≡ Some key.now) }
+    ensures extents { OnOk result (builder.new.extents ≡ builder.old.extents) }
+    ensures err { IfErr result (λ fault. builder.new.stopped ≡ Some fault) }
+{
+    match builder.add(port, key, LentMessage::of(message))? {
+        Add::Done => Ok(()),
+        Add::Needs => panic!(rt; "no extent is left"),
+    }
+}
+
 /// Adds the keys with the numbers below this one, each with the message.
 fn fill<P: Port>(
     rt: &impl Abort,
@@ -68,10 +102,8 @@ fn fill<P: Port>(
     for number in 0..count {
         let key = key_of(rt, alloc, number);
         assert!(rt; rises(&last, &key));
-        match builder.add(port, &key, LentMessage::of(message))? {
-            Add::Done => last = Some(key),
-            Add::Needs => panic!(rt; "no extent is left"),
-        }
+        add(rt, builder, port, &key, message)?;
+        last = Some(key);
     }
     Ok(())
 }
@@ -104,10 +136,7 @@ fn a_builder_asks_for_an_extent_when_a_page_is_due(rt: HostRuntime) -> Result<()
     let mut builder = builder_with(&rt, alloc, 0);
     let one = insert(&rt, alloc, b"1");
     let key = key_of(&rt, alloc, 0);
-    match builder.add(&mut port, &key, LentMessage::of(&one))? {
-        Add::Done => {}
-        Add::Needs => panic!(rt; "the first page has no room"),
-    }
+    add(&rt, &mut builder, &mut port, &key, &one)?;
     match builder.finish(&mut port)? {
         Finish::Needs => builder.give(3)?,
         _ => panic!(rt; "a page was written without an extent"),
@@ -157,21 +186,12 @@ fn a_lookup_reads_one_page_a_level(rt: HostRuntime) -> Result<(), Fail> {
     let one = insert(&rt, alloc, b"1");
     let branch = build(&rt, alloc, &mut builder, &mut port, 409, &one)?;
     let last = key_of(&rt, alloc, 408);
-    assert!(rt;
-        branch
-            .get(&mut port, &Direct, &HashedKey::of(&last))?
-            .as_ref()
-            == Some(&one)
-    );
+    assert!(rt; look(&branch, &mut port, &last)?.as_ref() == Some(&one));
     assert_eq!(rt; port.reads(), 2);
     for bytes in ["a", "k", "k0", "k00000", "k0408a", "k0409", "z"] {
         let absent = Key::read(bytes.as_bytes())?;
         let before = port.reads();
-        assert!(rt;
-            branch
-                .get(&mut port, &Direct, &HashedKey::of(&absent))?
-                .is_none()
-        );
+        assert!(rt; look(&branch, &mut port, &absent)?.is_none());
         assert_eq!(rt; branch.reach(&HashedKey::of(&absent)), 0, "{bytes}");
         assert_eq!(rt; port.reads(), before);
     }
@@ -186,12 +206,7 @@ fn a_read_that_fails_is_the_devices_fault(rt: HostRuntime) -> Result<(), Fail> {
     let one = insert(&rt, alloc, b"1");
     let branch = build(&rt, alloc, &mut builder, &mut port, 409, &one)?;
     let first = key_of(&rt, alloc, 0);
-    assert!(rt;
-        matches!(
-            branch.get(&mut port, &Direct, &HashedKey::of(&first)),
-            Err(BranchFault::Fault)
-        )
-    );
+    assert!(rt; matches!(look(&branch, &mut port, &first), Err(BranchFault::Fault)));
     assert_eq!(rt; (port.faults(), port.reads()), (1, 0));
     Ok(())
 }
@@ -205,28 +220,12 @@ fn updates_and_deletes_come_back(rt: HostRuntime) -> Result<(), Fail> {
     let second = key_of(&rt, alloc, 1);
     let update = Message::Update(Value::read(alloc, b"+2")?);
     assert!(rt; first < second);
-    assert_eq!(rt;
-        builder.add(&mut port, &first, LentMessage::of(&Message::Delete))?,
-        Add::Done
-    );
-    assert_eq!(rt;
-        builder.add(&mut port, &second, LentMessage::of(&update))?,
-        Add::Done
-    );
+    add(&rt, &mut builder, &mut port, &first, &Message::Delete)?;
+    add(&rt, &mut builder, &mut port, &second, &update)?;
     match builder.finish(&mut port)? {
         Finish::Built(branch) => {
-            assert!(rt;
-                branch
-                    .get(&mut port, &Direct, &HashedKey::of(&first))?
-                    .as_ref()
-                    == Some(&Message::Delete)
-            );
-            assert!(rt;
-                branch
-                    .get(&mut port, &Direct, &HashedKey::of(&second))?
-                    .as_ref()
-                    == Some(&update)
-            );
+            assert!(rt; look(&branch, &mut port, &first)?.as_ref() == Some(&Message::Delete));
+            assert!(rt; look(&branch, &mut port, &second)?.as_ref() == Some(&update));
         }
         _ => panic!(rt; "no branch"),
     }
@@ -272,10 +271,7 @@ fn a_branch_spans_extents(rt: HostRuntime) -> Result<(), Fail> {
         let key = key_of(&rt, alloc, number);
         let before = port.reads();
         assert!(rt;
-            branch
-                .get(&mut port, &Direct, &HashedKey::of(&key))?
-                .as_ref()
-                == Some(&long),
+            look(&branch, &mut port, &key)?.as_ref() == Some(&long),
             "{number}"
         );
         assert_eq!(rt; port.reads() - before, 3);
@@ -295,7 +291,7 @@ fn first_of(rt: &impl Abort, alloc: Global, blur: Blur) -> Result<Option<Message
     let mut builder = builder_with(rt, alloc, 1);
     let one = insert(rt, alloc, b"1");
     let branch = build(rt, alloc, &mut builder, &mut port, 409, &one).expect(rt, "a branch");
-    branch.get(&mut port, &Direct, &HashedKey::of(&key_of(rt, alloc, 0)))
+    look(&branch, &mut port, &key_of(rt, alloc, 0))
 }
 
 #[test]
