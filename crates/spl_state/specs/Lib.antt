@@ -1,0 +1,11 @@
+pub mod Actor
+pub mod Whole
+pub mod Extents
+pub mod Runs
+pub mod Actors
+pub mod Bounds
+pub mod Sound
+pub mod Sight
+pub mod Reply
+pub mod Frame
+pub mod View
