@@ -131,7 +131,15 @@ still rule tells old new number nodes refs tables owners actor grips =
     }
 
 module _ (rule : Rule) (tells : Bool) (old : Whole) (drafts : tells ≡ true → AreDrafts rule old) where
-  -- a refused step leaves all that anyone relies on
+  -- a state that stays leaves all that anyone relies on
+  pub unchanged_framed : (actor : ℕ) → IsFramed rule tells old old actor
+  unchanged_framed actor = record {
+    drafts = drafts;
+    means = λ told key. refl;
+    others = λ other below apart. still rule tells old old other refl refl refl refl refl (λ node. refl);
+  }
+
+  -- and so does a step more
   pub refused_framed : (actor : ℕ) → IsFramed rule tells old (refused old) actor
   refused_framed actor = record {
     drafts = drafts;
