@@ -1,5 +1,5 @@
 //! Names of branches that end: a branch that nothing names any more gives its extents back.
-ghost use Rattle.std.specs.Prelude.{◌≡◌, ℕ, ◌<◌, List, ◌∷◌, ◌++◌};
+ghost use Rattle.std.specs.Prelude.{◌≡◌, ℕ, ◌<◌, ◌≤◌, List, ◌∷◌, ◌++◌};
 ghost use Rattle.spl_extent.specs.Pool.{granted_to};
 ghost use Rattle.spl_refs.specs.Refs.{count_at, branch_at};
 ghost use Rattle.spl_state.specs.Names.{AreAccounted, IsFreed};
@@ -17,6 +17,7 @@ pub fn let_go<B: Content>(refs: &mut Refs<B>, pool: &mut Pool, number: u64)
         → AreAccounted B.extents rest refs.new pool.new }
     ensures granted { (actor : ℕ) → granted_to pool.new actor ≡ granted_to pool.old actor }
     ensures branches { (other : ℕ) → 0 < count_at refs.new other → branch_at refs.new other ≡ branch_at refs.old other }
+    ensures fewer { (other : ℕ) → count_at refs.new other ≤ count_at refs.old other }
 {
     if let Some(branch) = refs.let_go(number) {
         release_all(pool, branch.extents(), number);
@@ -30,6 +31,7 @@ pub fn let_go_all<B: Content>(refs: &mut Refs<B>, pool: &mut Pool, numbers: &[u6
         → AreAccounted B.extents rest refs.new pool.new }
     ensures granted { (actor : ℕ) → granted_to pool.new actor ≡ granted_to pool.old actor }
     ensures branches { (other : ℕ) → 0 < count_at refs.new other → branch_at refs.new other ≡ branch_at refs.old other }
+    ensures fewer { (other : ℕ) → count_at refs.new other ≤ count_at refs.old other }
 {
     for number in numbers {
         let_go(refs, pool, *number);
