@@ -5,5 +5,7 @@
 #![tactic(auto)]
 
 mod latch;
+mod memory;
 
 pub use latch::{claim, lock, unlock};
+pub use memory::{put, rotate};
