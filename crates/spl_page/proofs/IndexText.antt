@@ -1,14 +1,14 @@
 -- The bytes of an entry of an index page, and the children that are written.
-use Rattle.std.proofs.Common.{◌≡◌, ℕ, zero, suc, ◌+◌, ◌*◌, ◌^◌, ◌<◌, ◌≤◌, Bool, true, false, ◌&&◌, cond, ltb, leb, List, [], ◌∷◌, ◌++◌, Option, Some, None, length, take, drop, map, refl, sym, ap, subst, ◌∙◌, arith}
+use Rattle.std.proofs.Common.{◌≡◌, ℕ, ◌+◌, ◌*◌, ◌^◌, ◌<◌, ◌≤◌, Bool, true, false, ◌&&◌, cond, ltb, leb, List, [], ◌∷◌, ◌++◌, Option, Some, None, length, take, drop, refl, sym, ap, subst, ◌∙◌, arith}
 use Rattle.std.specs.Prelude.{slice_index, sum_by}
 use Rattle.std.specs.List.{AllByRecursion}
 use Rattle.std.proofs.lemmas.Bool.{and_from, cond-true, leb-true, lt-ltb, le-leb}
-use Rattle.std.proofs.lemmas.List.{take_at, drop_at, length-append, length-drop, length-take-le}
+use Rattle.std.proofs.lemmas.List.{take_at, length-append, length-drop, length-take-le}
 use Rattle.std.proofs.lemmas.List.Sums.{sum_by-cons}
 use Rattle.byteorder.specs.Numbers.{big_number-reads_back}
 use Rattle.spl_message.specs.Key.{AreRising, IsKey}
 use Rattle.spl_port.specs.declared.at.At.{At}
-use Rattle.spl_port.specs.Page.{IndexRow, index_fault, index_row, index_row_length, is_index_row, kind_fault, number_at, rows_of}
+use Rattle.spl_port.specs.Page.{IndexRow, index_fault, index_row, index_row_length, is_index_row, kind_fault, number_at}
 use Rattle.spl_page.specs.IndexPage.{index_entry_length, index_head}
 use Rattle.spl_page.specs.Sound.{entries_of, page_rows}
 use Rattle.spl_page.specs.Tables.{child_keys, children, children_length}

@@ -15,7 +15,7 @@ use Rattle.spl_port.specs.declared.at.At.{At}
 use Rattle.spl_port.specs.Page.{LeafRow, is_leaf_row, kind_fault, leaf_fault, leaf_row, leaf_row_length, number_at}
 use Rattle.spl_page.specs.LeafPage.{kind_of, value_of, leaf_entry_length, leaf_head, leaf_row_of}
 use Rattle.spl_page.specs.Sound.{entries_of, page_rows}
-use Rattle.spl_page.specs.Tables.{leaf_size, leaf_table, message_of, table_entry, table_length}
+use Rattle.spl_page.specs.Tables.{leaf_size, leaf_table, table_entry, table_length}
 use Rattle.spl_page.specs.Writer.{IsNext, IsText, Written, leaf_rows_written, nothing, written_table}
 use Rattle.spl_page.proofs.PageTables.{table_keys, table_length as table_count}
 

@@ -1,5 +1,5 @@
 -- Entries that are written one after the other, and the page of them.
-use Rattle.std.proofs.Common.{◌≡◌, ℕ, zero, suc, ◌+◌, ◌-◌, ◌*◌, ◌^◌, ◌<◌, ◌≤◌, ◌↔◌, max, leb, true, List, [], ◌∷◌, ◌++◌, Option, Some, None, length, drop, map, refl, sym, ap, subst, ◌∙◌, append_assoc, arith}
+use Rattle.std.proofs.Common.{◌≡◌, ℕ, zero, suc, ◌+◌, ◌-◌, ◌^◌, ◌<◌, ◌≤◌, ◌↔◌, max, leb, true, List, [], ◌∷◌, ◌++◌, Option, Some, None, length, drop, map, refl, sym, ap, subst, ◌∙◌, append_assoc, arith}
 use Rattle.std.specs.Prelude.{replicate, All, sum_by}
 use Rattle.std.specs.List.Sorted.{IsStrictlySortedBy}
 use Rattle.std.specs.Option.{option_and_then, option_map, option_or}
@@ -9,7 +9,7 @@ use Rattle.std.proofs.lemmas.List.Elements.{All-drop, All-head, All-nil, All-pus
 use Rattle.std.proofs.lemmas.List.Sums.{sum_by_push}
 use Rattle.spl_message.specs.Key.{AreRising}
 use Rattle.spl_port.specs.declared.at.At.{At}
-use Rattle.spl_port.specs.Page.{Rows, is_rising, kind_fault, row_count, rows_fault, rows_of}
+use Rattle.spl_port.specs.Page.{Rows, is_rising, kind_fault, rows_fault, rows_of}
 use Rattle.spl_page.specs.Frame.{found_fault, head_text}
 use Rattle.spl_page.specs.Sound.{entries_of, page_rows}
 use Rattle.spl_page.specs.Tables.{found_rows}

@@ -1,4 +1,4 @@
-use Rattle.std.proofs.Common.{◌≡◌, ◌+◌, ◌≤◌, ◌++◌, ◌∷◌, [], List, sym, ap, subst, ◌∙◌, arith}
+use Rattle.std.proofs.Common.{◌++◌, ◌∷◌, [], List, sym, ap, subst, ◌∙◌, arith}
 use Rattle.spl_message.specs.Key.{AreRising}
 use Rattle.spl_port.specs.Page.{IndexRow}
 use Rattle.spl_page.specs.IndexPage.{index_row_of}

@@ -1,4 +1,4 @@
-use Rattle.std.proofs.Common.{◌≡◌, ◌+◌, ◌<◌, ◌≤◌, List, ℕ, None, map, length, sym, ap, subst, ◌∙◌, arith}
+use Rattle.std.proofs.Common.{◌≡◌, List, ℕ, None, length, ap, subst, ◌∙◌, arith}
 use Rattle.std.proofs.lemmas.List.{length-map}
 use Rattle.spl_port.specs.Page.{IsLeafPage, LeafRow, is_rising, kind_fault, leaf_row, leaf_row_length}
 use Rattle.spl_page.specs.declared.leaf_entry.LeafEntry.{LeafEntry}

@@ -1,4 +1,4 @@
-use Rattle.std.proofs.Common.{◌≡◌, ◌-◌, ◌<◌, ◌++◌, List, [], ℕ, length, drop, sym, ap, subst, ◌∙◌, arith}
+use Rattle.std.proofs.Common.{◌-◌, ◌<◌, ◌++◌, List, [], ℕ, length, drop, sym, ap, subst, ◌∙◌, arith}
 use Rattle.std.specs.Prelude.{All, replicate, slice_index, vec_len}
 use Rattle.std.proofs.lemmas.List.{length-drop}
 use Rattle.spl_page.specs.Frame.{head_text}
