@@ -6,6 +6,8 @@
 
 mod latch;
 mod memory;
+#[cfg(test)]
+mod tests;
 
 pub use latch::{claim, lock, unlock};
 pub use memory::{put, rotate};
