@@ -1,8 +1,8 @@
 -- What keeps the shape of a trunk where a child is split.
-use Rattle.std.proofs.Common.{◌≡◌, ◌≢◌, ℕ, zero, suc, ◌+◌, ◌-◌, ◌<◌, ◌≤◌, Bool, true, false, not, nat_lt, if◌then◌else◌, List, [], ◌∷◌, ◌++◌, Option, Some, None, is_some, flat_map, map, length, get_or, take, drop, refl, sym, ap, ap₂, subst, ◌∙◌, inl, inr, arith, length-append, length-take-le, length-drop, length-set, get_or-take, get_or-drop, get_or-set_same, get_or-set_other, take-append-drop}
+use Rattle.std.proofs.Common.{◌≡◌, ◌≢◌, ℕ, zero, suc, ◌+◌, ◌-◌, ◌<◌, ◌≤◌, Bool, true, nat_lt, if◌then◌else◌, List, [], ◌∷◌, ◌++◌, Option, Some, None, is_some, flat_map, map, length, take, drop, refl, sym, ap, ap₂, subst, ◌∙◌, inl, inr, arith, length-append, length-take-le, length-drop, length-set, get_or-take, get_or-drop, get_or-set_same, get_or-set_other, take-append-drop}
 use Rattle.std.specs.List.{insert}
 use Rattle.std.specs.Prelude.{IsSome, option_to_list, All, ◌↔◌}
-use Rattle.std.proofs.lemmas.Bool.{cases_eq, cases_lt, lt-ltb, le-ltb, false≢true}
+use Rattle.std.proofs.lemmas.Bool.{cases_eq, cases_lt, lt-ltb, le-ltb}
 use Rattle.std.proofs.lemmas.Grind.{flat_map-append}
 use Rattle.std.proofs.lemmas.List.{length-map, get_or-map, get_or_at, get_or_append_left}
 use Rattle.std.proofs.lemmas.List.Edits.{length-insert, get_or-insert_at, get_or-insert_below, get_or-insert_above}
@@ -11,15 +11,15 @@ use Rattle.spl_message.specs.declared.span.Span.{Span}
 use Rattle.spl_message.specs.Span.{is_from, is_before, InSpan}
 use Rattle.spl_node.specs.declared.pivot.Pivot.{Pivot}
 use Rattle.spl_node.specs.declared.node.TheConstants.{MAX_PIVOTS}
-use Rattle.spl_node.specs.Node.{NodeData, bare, pivot_at, pivot_for, span_of, is_past, StartsIn, AreRising, IsMark, IsNode}
-use Rattle.spl_node.specs.Steps.{fresh, starts_below, IsSplitAt, IsSplitKey, right_pivots, right_of, left_of}
+use Rattle.spl_node.specs.Node.{NodeData, bare, pivot_at, span_of, is_past, StartsIn, AreRising, IsMark, IsNode}
+use Rattle.spl_node.specs.Steps.{fresh, with_pivots, starts_below, IsSplitKey, right_pivots, right_of, left_of}
 use Rattle.spl_node.proofs.Lives.{mark_at}
 use Rattle.spl_node.proofs.Nodes.{inserted_node, left_node, right_node}
 use Rattle.spl_node.proofs.Places.{pivot_only, all_started}
 use Rattle.spl_node.proofs.Starts.{both, first_of_both, second_of_both, later_start}
 use Rattle.spl_node.proofs.Splits.{before_end, split_inside, split_past, split_cut, inserted_rising}
-use Rattle.spl_trunk.specs.Trunk.{node_at, with_node}
-use Rattle.spl_trunk.specs.Tree.{number_of, times, children, leads, IsChild, IsShaped}
+use Rattle.spl_trunk.specs.Trunk.{node_at, with_node, pivots_at, with_pivots_at}
+use Rattle.spl_trunk.specs.Tree.{times, children, leads, IsChild, IsShaped}
 use Rattle.spl_trunk.specs.Moves.{right_pivot, widened, divided}
 use Rattle.spl_trunk.proofs.Counts.{times-append, times-replaced}
 use Rattle.spl_trunk.proofs.Trees.{one_parent, not_root}
@@ -130,8 +130,9 @@ module _ (nodes : List NodeData) (shaped : IsShaped nodes) (room : length nodes 
   before_next : i + 1 < length old.pivots → is_before (pivot_at old.pivots (i + 1)).start at ≡ true
   before_next more = ap (λ s. is_before s at) (sym (ends_here ∙ end_at old.pivots old.range.to i more)) ∙ before
 
-  rising : AreRising (insert old.pivots (i + 1) new)
-  rising = inserted_rising old.pivots i new at refl within parent_is.rising past before_next
+  -- the new pivot may be inserted
+  pub divided_rising : AreRising (insert old.pivots (i + 1) new)
+  divided_rising = inserted_rising old.pivots i new at refl within parent_is.rising past before_next
 
   -- the key of the split in the parent's range
   part_within : (j : ℕ) → j < length old.pivots → (key : List ℕ) → is_from (pivot_at old.pivots j).start key ≡ true → is_from old.range.from key ≡ true
@@ -152,10 +153,16 @@ module _ (nodes : List NodeData) (shaped : IsShaped nodes) (room : length nodes 
     | inr last ↦ ap (λ s. is_before s at) (sym (ends_here ∙ end_last old.pivots old.range.to i last)) ∙ before
   ]
 
+  pub divided_start : StartsIn old.range (Some at)
+  divided_start = both (is_from old.range.from at) (is_before old.range.to at) from_parent before_parent
+
+  pub divided_mark : IsMark old.lists new.mark
+  divided_mark = mark_at old parent_is i within
+
   wide_node : IsNode wide
   wide_node =
       let high = linked.height in
-      inserted_node old parent_is (i + 1) new (omega arith) (omega arith) (omega arith) few refl (both (is_from old.range.from at) (is_before old.range.to at) from_parent before_parent) rising (mark_at old parent_is i within)
+      inserted_node old parent_is (i + 1) new (omega arith) (omega arith) (omega arith) few refl divided_start divided_rising divided_mark
 
   -- a node but the child keeps its height and its range
   kept_height : (d : ℕ) → d < length nodes → d ≢ child → ((node_at after d).height ≡ (node_at nodes d).height) × ((node_at after d).range ≡ (node_at nodes d).range)
@@ -415,3 +422,14 @@ module _ (nodes : List NodeData) (shaped : IsShaped nodes) (room : length nodes 
             ∙ counted_more k (length nodes)
             ∙ ap (λ (m : ℕ). flag (nat_lt k m)) (sym long);
       }
+
+  -- the calls `grow`, `keep_left` and `insert_pivot`, one after another, make these nodes
+  pub divided_made : (let halved : List NodeData = with_node grown child (left_of (node_at grown child) at) in with_pivots_at halved parent (insert (pivots_at halved parent) (i + 1) new)) ≡ after
+  divided_made =
+      let whole_is : node_at grown child ≡ whole = get_or_append_left nodes (upper ∷ []) (fresh 0 bare) child linked.exists in
+      let made : List NodeData → List NodeData = λ halved. with_pivots_at halved parent (insert (pivots_at halved parent) (i + 1) new) in
+      let halved = with_node grown child lower in
+      let old_is : node_at halved parent ≡ old =
+      get_or-set_other grown child parent lower (fresh 0 bare) (λ same. not_self (sym same)) ∙ get_or_append_left nodes (upper ∷ []) (fresh 0 bare) parent exists in
+      ap (λ (node : NodeData). made (with_node grown child (left_of node at))) whole_is
+      ∙ ap (λ (node : NodeData). with_node halved parent (with_pivots node (insert node.pivots (i + 1) new))) old_is

@@ -5,3 +5,4 @@ pub mod Shapes
 pub mod Divided
 pub mod Steps
 pub mod Names
+pub mod Means

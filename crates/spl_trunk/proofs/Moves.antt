@@ -1,8 +1,8 @@
 -- What the steps of the core leave of what each node makes of a key.
-use Rattle.std.proofs.Common.{◌≡◌, ◌≢◌, ℕ, zero, suc, ◌+◌, ◌<◌, ◌≤◌, max, Bool, true, false, not, List, [], ◌∷◌, ◌++◌, ◌⊎◌, Option, Some, None, option_to_list, flat_map, map, length, take, drop, ◌-◌, refl, sym, ap, subst, ◌∙◌, inl, inr, arith}
+use Rattle.std.proofs.Common.{◌≡◌, ◌≢◌, ℕ, zero, suc, ◌+◌, ◌<◌, ◌≤◌, max, Bool, true, not, List, [], ◌++◌, ◌⊎◌, Option, Some, None, option_to_list, map, length, take, drop, ◌-◌, refl, sym, ap, subst, ◌∙◌, inl, inr, arith}
 use Rattle.std.specs.List.{insert}
-use Rattle.std.proofs.lemmas.Bool.{cases_eq, false≢true}
-use Rattle.std.proofs.lemmas.List.{append-nil, map-append}
+use Rattle.std.proofs.lemmas.Bool.{cases_eq}
+use Rattle.std.proofs.lemmas.List.{map-append}
 use Rattle.std.proofs.lemmas.List.Elements.{All-get_or}
 use Rattle.std.proofs.lemmas.List.Sums.{fold-append}
 use Rattle.std.proofs.lemmas.Grind.{flat_map-append}
@@ -11,11 +11,11 @@ use Rattle.spl_message.specs.declared.span.Span.{Span}
 use Rattle.spl_message.specs.Cell.{Cell}
 use Rattle.spl_message.specs.Message.{act, act_all}
 use Rattle.spl_message.specs.Rule.{Rule}
-use Rattle.spl_message.specs.Span.{is_from, InSpan}
+use Rattle.spl_message.specs.Span.{InSpan}
 use Rattle.spl_message.specs.Table.{Table, chain, message_at}
 use Rattle.spl_bundle.specs.Numbered.{next_of, joined, live, pushed, merged}
 use Rattle.spl_node.specs.declared.pivot.Pivot.{Pivot}
-use Rattle.spl_node.specs.Node.{NodeData, bare, pivot_at, pivot_for, span_of, live_at, AreRising, IsNode}
+use Rattle.spl_node.specs.Node.{NodeData, bare, pivot_at, pivot_for, live_at, AreRising, IsNode}
 use Rattle.spl_node.specs.Steps.{fresh, with_lists, IsSplitKey, left_of, right_of, lowered, lifted}
 use Rattle.spl_node.proofs.Places.{pivot_for_within, pivot_only}
 use Rattle.spl_trunk.specs.Trunk.{node_at}
@@ -27,7 +27,7 @@ use Rattle.spl_node.proofs.Lives.{live-merged, live_with_run, live-merged_above,
 use Rattle.spl_node.proofs.Splits.{split_parts, is_left, is_right, inserted_here, inserted_below, inserted_elsewhere}
 
 module _ (rule : Rule) (key : List ℕ) where
-  act_all-append : (cell : Cell) (xs ys : List Message) → act_all rule key cell (xs ++ ys) ≡ act_all rule key (act_all rule key cell xs) ys
+  pub act_all-append : (cell : Cell) (xs ys : List Message) → act_all rule key cell (xs ++ ys) ≡ act_all rule key (act_all rule key cell xs) ys
   act_all-append cell xs ys = fold-append (act rule key) cell xs ys
 
   -- the tables of joined lists act one list after the other

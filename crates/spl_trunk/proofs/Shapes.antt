@@ -1,18 +1,15 @@
 -- What keeps the shape of a trunk.
-use Rattle.std.proofs.Common.{◌≡◌, ◌≢◌, ℕ, zero, suc, ◌+◌, ◌-◌, ◌<◌, ◌≤◌, max, Bool, true, false, nat_eq, nat_lt, cond, if◌then◌else◌, List, [], ◌∷◌, ◌++◌, Option, Some, None, flat_map, map, length, get_or, set, take, drop, replicate, refl, sym, ap, ap₂, subst, ◌∙◌, inl, inr, arith, length-append, length-take-le, length-drop, length-set, get_or-take, get_or-drop, get_or-set_same, get_or-set_other, take-append-drop}
-use Rattle.std.specs.List.{insert}
-use Rattle.std.specs.Prelude.{IsSome, option_to_list, All, ◌↔◌}
-use Rattle.std.proofs.lemmas.Bool.{cases_eq, cases_lt, lt-ltb, le-ltb, ltb-true, ne_eqb, false≢true}
+use Rattle.std.proofs.Common.{◌≡◌, ◌≢◌, ℕ, zero, suc, ◌+◌, ◌-◌, ◌<◌, ◌≤◌, max, Bool, true, false, nat_lt, cond, if◌then◌else◌, List, [], ◌∷◌, ◌++◌, Option, Some, None, flat_map, map, length, get_or, set, take, drop, replicate, refl, sym, ap, ap₂, subst, ◌∙◌, inl, inr, arith, length-append, length-take-le, length-drop, length-set, get_or-set_same, get_or-set_other}
+use Rattle.std.specs.Prelude.{IsSome, option_to_list, ◌↔◌}
+use Rattle.std.proofs.lemmas.Bool.{cases_eq, cases_lt, lt-ltb, le-ltb, ltb-true, ne_eqb}
 use Rattle.std.proofs.lemmas.Grind.{flat_map-append}
 use Rattle.std.proofs.lemmas.List.{append-nil, length-map, length-replicate, get_or-map, get_or_at, get_or_append_left, get_or_default}
-use Rattle.std.proofs.lemmas.List.Edits.{length-insert, get_or-insert_at, get_or-insert_below, get_or-insert_above}
 use Rattle.std.proofs.lemmas.List.Elements.{All-get_or, All-cons, All-nil, All-append, All-set}
 use Rattle.spl_message.specs.declared.span.Span.{Span}
-use Rattle.spl_message.specs.Span.{is_from, is_before, InSpan}
 use Rattle.spl_bundle.specs.Numbered.{Numbered, Bundle, unmarked, next_of, pushed, merged, marked, released, owned_by, without_mark}
 use Rattle.spl_node.specs.declared.pivot.Pivot.{Pivot}
 use Rattle.spl_node.specs.Node.{NodeData, bare, pivot_at, span_of, StartsIn, IsMark, IsNode}
-use Rattle.spl_node.specs.Steps.{fresh, all_keys, with_lists, with_mark, at_mark, kept_from, trimmed, lowered, lifted}
+use Rattle.spl_node.specs.Steps.{fresh, with_lists, with_mark, at_mark, kept_from, trimmed, lowered, lifted}
 use Rattle.spl_node.proofs.Lives.{mark_at, kept_from-le, kept_from-ge}
 use Rattle.spl_node.proofs.Nodes.{remarked_node, marked_node, trimmed_node}
 use Rattle.spl_trunk.specs.Trunk.{node_at, with_node}
@@ -350,3 +347,8 @@ module _ (nodes : List NodeData) (shaped : IsShaped nodes) (room : length nodes 
             ∙ counted_more k (length nodes)
             ∙ ap (λ (m : ℕ). flag (nat_lt k m)) (sym long);
       }
+
+  -- the calls `grow` and `lift` make these nodes
+  pub raised_made : with_node (nodes ++ lowered (node_at nodes 0) ∷ []) 0 (lifted (node_at (nodes ++ lowered (node_at nodes 0) ∷ []) 0) (length nodes)) ≡ raised nodes
+  raised_made =
+      ap (λ (root : NodeData). with_node (nodes ++ lowered (node_at nodes 0) ∷ []) 0 (lifted root (length nodes))) (get_or_append_left nodes (lowered (node_at nodes 0) ∷ []) (fresh 0 bare) 0 shaped.some)

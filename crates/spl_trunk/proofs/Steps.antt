@@ -1,6 +1,6 @@
 -- What each node makes of a key where the calls of a flush and of a compaction were made.
-use Rattle.std.proofs.Common.{◌≡◌, ◌≢◌, ℕ, zero, suc, ◌+◌, ◌<◌, ◌≤◌, max, Bool, true, false, List, [], ◌∷◌, ◌++◌, Option, Some, None, option_to_list, map, length, set, refl, sym, ap, subst, ◌∙◌, inl, inr, arith, length-set, get_or-set_same, get_or-set_other}
-use Rattle.std.proofs.lemmas.Bool.{cases_eq, false≢true}
+use Rattle.std.proofs.Common.{◌≡◌, ◌≢◌, ℕ, ◌+◌, ◌<◌, ◌≤◌, Bool, true, false, List, [], ◌∷◌, ◌++◌, Option, Some, None, option_to_list, map, length, set, refl, sym, ap, subst, ◌∙◌, inl, inr, arith, length-set, get_or-set_same, get_or-set_other}
+use Rattle.std.proofs.lemmas.Bool.{cases_eq}
 use Rattle.std.proofs.lemmas.List.{append-nil}
 use Rattle.std.proofs.lemmas.List.Elements.{All-get_or}
 use Rattle.spl_message.specs.declared.span.Span.{Span}
@@ -8,7 +8,7 @@ use Rattle.spl_message.specs.Cell.{Cell}
 use Rattle.spl_message.specs.Message.{act_all}
 use Rattle.spl_message.specs.Rule.{Rule}
 use Rattle.spl_message.specs.Span.{InSpan}
-use Rattle.spl_message.specs.Table.{Table, IsMerged, as_table, chain, message_at}
+use Rattle.spl_message.specs.Table.{Table, IsMerged, chain, message_at}
 use Rattle.spl_message.proofs.Messages.{act_all-merged, act_all-merged_bottom}
 use Rattle.spl_bundle.specs.Numbered.{next_of, live, merged}
 use Rattle.spl_bundle.proofs.Changes.{live_next}

@@ -1,6 +1,6 @@
 -- What leaves the meaning of a node alone.
-use Rattle.std.proofs.Common.{◌≡◌, ◌≢◌, ℕ, zero, suc, ◌+◌, ◌<◌, ◌≤◌, Bool, true, false, nat_lt, if◌then◌else◌, List, [], ◌∷◌, ◌++◌, Option, Some, None, flat_map, map, length, get_or, refl, sym, ap, subst, ◌∙◌, inl, inr, arith}
-use Rattle.std.specs.Prelude.{IsSome, option_to_list, All, ◌↔◌}
+use Rattle.std.proofs.Common.{◌≡◌, ◌≢◌, ℕ, zero, suc, ◌<◌, ◌≤◌, Bool, true, false, nat_lt, if◌then◌else◌, List, [], ◌∷◌, Option, Some, None, flat_map, length, refl, sym, ap, subst, ◌∙◌, inl, inr, arith}
+use Rattle.std.specs.Prelude.{IsSome, option_to_list, ◌↔◌}
 use Rattle.std.proofs.lemmas.Bool.{cases_eq, cases_lt, false≢true}
 use Rattle.std.proofs.lemmas.List.Elements.{All-get_or, All-cons, All-nil}
 use Rattle.std.proofs.lemmas.Bool.Decides.{nat_tests}
@@ -11,11 +11,11 @@ use Rattle.spl_message.specs.Rule.{Rule}
 use Rattle.spl_message.specs.Span.{InSpan}
 use Rattle.spl_message.specs.Table.{Table, chain}
 use Rattle.spl_node.specs.declared.pivot.Pivot.{Pivot}
-use Rattle.spl_node.specs.Node.{NodeData, bare, pivot_at, pivot_for, span_of, StartsIn, IsMark, IsNode}
+use Rattle.spl_node.specs.Node.{NodeData, bare, pivot_at, pivot_for, StartsIn, IsMark, IsNode}
 use Rattle.spl_node.specs.Steps.{fresh, all_keys}
 use Rattle.spl_node.proofs.Places.{pivot_for_within, pivot_holds}
 use Rattle.spl_trunk.specs.Trunk.{node_at}
-use Rattle.spl_trunk.specs.Tree.{pivot_of, number_of, child_for, live_tables, sub, times, children, leads, IsChild, IsShaped}
+use Rattle.spl_trunk.specs.Tree.{pivot_of, number_of, child_for, live_tables, sub, times, children, IsShaped}
 use Rattle.spl_trunk.proofs.Counts.{times-append, times_one, times_two, times_itself}
 
 some_is : (o : Option ℕ) → IsSome o → o ≡ Some (number_of o)
