@@ -6,8 +6,10 @@
 
 mod latch;
 mod memory;
+mod retire;
 #[cfg(test)]
 mod tests;
 
 pub use latch::{claim, lock, unlock};
 pub use memory::{put, rotate};
+pub use retire::retire;
