@@ -150,3 +150,9 @@ module _ (rule : Rule) (tells : Bool) where
         let never : (place : ℕ) → reply ≢ Placed place = λ place is. cc in
         let same = subst (λ (w : Whole). StandsFor rule tells w history) (sym (stays never)) (stands_counted history stands) in
         subst (λ (h : History). StandsFor rule tells new h) (sym (append-nil history)) same
+
+-- what the publisher of a branch knows holds where the step was counted
+pub asked : {B : Type 0} {table_of : B → Table} {rule : Rule} {tells : Bool} {old mid : Whole} {actor : ℕ} {step : Step B} {branch : Arc B} → mid ≡ refused old → step ≡ Publish branch → (tells ≡ true → Knows table_of rule old actor step) → tells ≡ true → AsksFor rule mid actor (table_of branch.value)
+asked {table_of = table_of} {rule = rule} {old = old} {actor = actor} {step = step} {branch = branch} is_counted is knows told =
+    let here : Knows table_of rule old actor (Publish branch) = subst (λ (s : Step _). Knows table_of rule old actor s) is (knows told) in
+    subst (λ (w : Whole). AsksFor rule w actor (table_of branch.value)) (sym is_counted) here

@@ -1,8 +1,9 @@
-use spl_message::{Key, Message};
+use spl_message::{Content, Key, Message};
+use std::sync::Arc;
 
 /// What an actor asks of the core.
-#[derive(Debug, Drop)]
-pub enum Step {
+#[derive(Drop)]
+pub enum Step<B: Content> {
     /// Adds the message to what the key has.
     Put { key: Key, message: Message },
     /// Freezes the active memtable, where it is full.
@@ -13,6 +14,14 @@ pub enum Step {
     Lock { node: u32 },
     /// Ends the claim or write on the node.
     Unlock { node: u32 },
+    /// Picks the oldest frozen memtable that nobody picked, to pack it.
+    PickFrozen,
+    /// Asks for a free extent.
+    Grant,
+    /// Publishes the branch of the job.
+    Publish { branch: Arc<B> },
+    /// Hangs the published branch at the root, in the place of its memtable.
+    Incorporate,
     /// Counts one running caller less.
     Retire,
 }
