@@ -1,2 +1,3 @@
 pub mod Memtables
 pub mod Room
+pub mod Picked

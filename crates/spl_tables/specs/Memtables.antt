@@ -37,10 +37,10 @@ pub record AreMemtables (tables : MemtableData) : Type 0 where
 -- the active memtable is the newest frozen one, which nobody picked, and a new one has no keys
 abbrev pub rotated : MemtableData → MemtableData
 rotated tables = record {
-    active = as_table [];
-    frozen = tables.frozen ++ record { number = tables.next; table = tables.active; picked = None } ∷ [];
-    next = tables.next + 1
-  }
+  active = as_table [];
+  frozen = tables.frozen ++ record { number = tables.next; table = tables.active; picked = None } ∷ [];
+  next = tables.next + 1;
+}
 
 -- the position of the oldest one that nobody picked
 abbrev pub first_unpicked : List FrozenData → Option ℕ
