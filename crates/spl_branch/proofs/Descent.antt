@@ -25,7 +25,7 @@ or_some None rest none = refl
 or_some (Some message) rest none = absurd cc
 
 -- a child is found only where the key is not below the first key under the first child
-not_below_first : (below : Bool) (child further : ℕ) → cond below None (Some child) ≡ Some further → below ≡ false
+pub not_below_first : (below : Bool) (child further : ℕ) → cond below None (Some child) ≡ Some further → below ≡ false
 not_below_first true child further is = absurd cc
 not_below_first false child further is = refl
 
@@ -38,7 +38,7 @@ module _ (under : ℕ → Entries) where
   abbrev pub HasFirst : IndexRow → Type 0
   HasFirst row = first_key (under row.child) ≡ Some row.key
 
-  first_under : (row : IndexRow) (rows : List IndexRow) → HasFirst row → first_key (all_under (row ∷ rows)) ≡ Some row.key
+  pub first_under : (row : IndexRow) (rows : List IndexRow) → HasFirst row → first_key (all_under (row ∷ rows)) ≡ Some row.key
   first_under row rows has = first_key_front (under row.child) (all_under rows) row.key has
 
   -- what the table under the child that was found has for a key

@@ -29,7 +29,7 @@ message_at-append (entry ∷ first) second key =
     found_or (is_at (slice_cmp nat_cmp key) entry.0) entry.1 (message_in first key) (message_in second key) (message_in (first ++ second) key) (message_at-append first second key)
 
 -- what holds of each key of two tables holds of the first key of the second
-all_first : (P : List ℕ → Type 0) (first second : Entries) (key : List ℕ) → AllByRecursion P (keys_of (first ++ second)) → first_key second ≡ Some key → P key
+pub all_first : (P : List ℕ → Type 0) (first second : Entries) (key : List ℕ) → AllByRecursion P (keys_of (first ++ second)) → first_key second ≡ Some key → P key
 all_first P [] [] key all is = absurd cc
 all_first P [] (entry ∷ second) key all is = let same : entry.0 ≡ key = cc in rw (← same) all.0
 all_first P (entry ∷ first) second key all is = all_first P first second key all.1 is

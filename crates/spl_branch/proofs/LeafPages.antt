@@ -3,7 +3,7 @@ use Rattle.std.proofs.Common.{◌≡◌, ℕ, zero, suc, ◌+◌, ◌-◌, ◌<�
 use Rattle.std.specs.List.{enumerate_from, slice_get}
 use Rattle.std.specs.Option.{IfSome, is_some, option_map, unwrap_or}
 use Rattle.std.specs.Bool.{IsTrue}
-use Rattle.std.specs.Result.{IfOk}
+use Rattle.std.specs.Result.{IfErr, IfOk}
 use Rattle.std.proofs.lemmas.List.{length-append, length-replicate, length_push, map-append}
 use Rattle.std.proofs.lemmas.Option.{get_or_from_slice_get, slice_get-map}
 use Rattle.spl_message.specs.Entries.{Entries}
@@ -14,7 +14,7 @@ use Rattle.spl_page.specs.Tables.{leaf_table}
 use Rattle.spl_branch.specs.Branch.{Branch, IsBranch, entries_in, leaf_entries}
 use Rattle.spl_branch.specs.Leaves.{leaf_tables}
 use Rattle.spl_branch.specs.Reading.{IsPlaceOf}
-use Rattle.spl_branch.proofs.PartPages.{kind_at}
+use Rattle.spl_branch.proofs.PartPages.{kind_at, slice_get_some}
 use Rattle.spl_branch.proofs.Visits.{some_and}
 use Rattle.spl_branch.specs.Pages.{AreTold, kinds_of, page_total, shown_pages, shown_part, told_pages}
 
@@ -45,7 +45,7 @@ part_kinds : (part : Sealed) → IfSome part.told (λ pages. length pages ≡ pa
 part_kinds part counted told =
     kinds_again part.extent part.branch part.first 0 [] part.leaves part.leaves (told_pages part) refl refl (told_count part.told (page_count part) counted told)
 
-kinds_are : (parts : List Sealed) → ((j : ℕ) (part : Sealed) → slice_get parts j ≡ Some part → IfSome part.told (λ pages. length pages ≡ page_count part)) → AreTold parts
+pub kinds_are : (parts : List Sealed) → ((j : ℕ) (part : Sealed) → slice_get parts j ≡ Some part → IfSome part.told (λ pages. length pages ≡ page_count part)) → AreTold parts
     → map (λ (shown : Shown). shown.at.leaf) (shown_pages parts) ≡ kinds_of parts
 kinds_are [] counted told = refl
 kinds_are (part ∷ parts) counted told =
@@ -95,6 +95,30 @@ leaf_there branch at page is within place_is number =
     ∙ first_true branch.leaves at.page (replicate (page_total branch.parts - branch.leaves) false) (omega (arith, number)) in
     ap (λ at. at.leaf) found.2.1 ∙ get_or_from_slice_get found.0.leaves (at.page % 32) true false kind
 
+no_true : (n page : ℕ) → slice_get (replicate n false) page ≡ Some true → ⊥
+no_true zero page is = cc
+no_true (suc n) zero is = cc
+no_true (suc n) (suc page) is = no_true n page is
+
+true_within : (leaves page n : ℕ) → slice_get (replicate leaves true ++ replicate n false) page ≡ Some true → page < leaves
+true_within zero page n is = absurd (no_true n page is)
+true_within (suc leaves) zero n is = omega arith
+true_within (suc leaves) (suc page) n is = omega (arith, true_within leaves page n is)
+
+-- a place of a leaf page is one of the first
+pub leaf_place : (branch : Branch) (at : At) → IsBranch branch → IsPlaceOf branch.parts at → at.leaf ≡ true → at.page < branch.leaves
+leaf_place branch at is place_is leaf =
+    let found = some_and (λ part. (at.page % 32 < page_count part) × (at ≡ place part (at.page % 32))) (slice_get branch.parts (at.page / 32)) place_is in
+    let there = slice_get_some found.0.leaves (at.page % 32) found.2.0 in
+    let kind : there.0 ≡ true =
+    sym (get_or_from_slice_get found.0.leaves (at.page % 32) there.0 false there.1) ∙ sym (ap (λ at. at.leaf) found.2.1) ∙ leaf in
+    true_within branch.leaves at.page (page_total branch.parts - branch.leaves) (
+    sym (ap (λ (kinds : List Bool). slice_get kinds at.page) is.kinds)
+    ∙ kind_at branch.number branch.extents branch.parts at.page found.0 is.parts found.1 found.2.0
+    ∙ there.1
+    ∙ ap Some kind
+    )
+
 -- there are no more leaf pages than pages
 pub leaves_within : (branch : Branch) → IsBranch branch → branch.leaves ≤ page_total branch.parts
 leaves_within branch is =
@@ -117,3 +141,8 @@ leaf_told branch page shown within told =
 pub if_ok_then : {T E : Type 0} (P Q : T → Type 0) (result : Result T E) → ((value : T) → P value → Q value) → IfOk result P → IfOk result Q
 if_ok_then P Q (Ok value) then is = then value is
 if_ok_then P Q (Err fault) then is = tt
+
+-- what follows from a fault that was answered
+pub if_err_then : {T E : Type 0} (P Q : E → Type 0) (result : Result T E) → ((fault : E) → P fault → Q fault) → IfErr result P → IfErr result Q
+if_err_then P Q (Ok value) then is = tt
+if_err_then P Q (Err fault) then is = then fault is

@@ -1,11 +1,13 @@
 pub mod Admitting
 pub mod Descent
+pub mod Dividing
 pub mod Down
 pub mod GrowingLists
 pub mod GrowingParts
 pub mod GrowingTable
 pub mod GrowingTree
 pub mod Joined
+pub mod LeafStarts
 pub mod LeafPages
 pub mod PartPages
 pub mod Paths

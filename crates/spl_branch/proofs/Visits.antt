@@ -1,11 +1,9 @@
 -- What the page that was fetched is to the branch.
-use Rattle.std.proofs.Common.{◌≡◌, ℕ, ◌/◌, ◌%◌, ◌<◌, true, false, cond, List, [], Option, Some, None, length, get_or, map, refl, sym, ap, ◌∙◌, subst, arith}
+use Rattle.std.proofs.Common.{◌≡◌, ℕ, ◌/◌, ◌%◌, ◌<◌, List, [], Option, Some, None, length, get_or, map, refl, sym, ap, ◌∙◌, subst, arith}
 use Rattle.std.specs.List.{slice_get}
 use Rattle.std.specs.Option.{IsSomeAnd}
 use Rattle.std.proofs.lemmas.List.{length-map}
 use Rattle.std.proofs.lemmas.Option.{slice_get_within}
-use Rattle.spl_message.specs.declared.message.Message.{Message}
-use Rattle.spl_message.specs.Entries.{message_in}
 use Rattle.spl_port.specs.declared.at.At.{At}
 use Rattle.spl_port.specs.Counts.{Counts, Shown}
 use Rattle.spl_port.specs.Page.{page_fault}
@@ -13,14 +11,12 @@ use Rattle.spl_port.specs.Seal.{Allows, Sealed, page_count, place}
 use Rattle.spl_pager.specs.declared.fault.FetchFault.{FetchFault}
 use Rattle.spl_pager.specs.declared.fault.FetchFault.TheVariants.{Failed, Damaged as DamagedPage, NoMemory as NoMemoryForPage}
 use Rattle.spl_pager.specs.Fetching.{HasFetchCause}
-use Rattle.spl_page.specs.Tables.{child_for, children, leaf_table}
-use Rattle.spl_branch.specs.declared.visit.Visit.TheVariants.{Found}
 use Rattle.spl_branch.specs.Branch.{Branch, IsBranch}
 use Rattle.spl_branch.specs.Faults.{of_fetch}
 use Rattle.spl_branch.specs.Pages.{AreTold, page_total, shown_pages}
 use Rattle.spl_branch.specs.Path.{Gives, IsGiven}
 use Rattle.spl_branch.specs.Reading.{IsPlaceOf}
-use Rattle.spl_branch.specs.Visiting.{HasVisitCause, by_child, visit_of}
+use Rattle.spl_branch.specs.Visiting.{HasVisitCause}
 use Rattle.spl_branch.proofs.PartPages.{part_at, seal_part}
 use Rattle.spl_branch.proofs.ToldPages.{read_is}
 
@@ -51,18 +47,6 @@ page_is means branch seals page seal is parts within read =
       within = subst (λ part. page % 32 < page_count part) same at.within;
       own = subst (λ part. (place part (page % 32)).page ≡ page) same at.own;
     }
-
--- a leaf page has the message
-pub leaf_visit : (at : At) (bytes key : List ℕ) (found : Option Message) → at.leaf ≡ true → found ≡ message_in (leaf_table bytes) key
-    → Found found ≡ visit_of (record { at = at; bytes = bytes }) key
-leaf_visit at bytes key found leaf is =
-    ap Found is ∙ ap (λ b. cond b (Found (message_in (leaf_table bytes) key)) (by_child (child_for (children at.page bytes) key))) (sym leaf)
-
--- an index page names the child, or none
-pub index_visit : (at : At) (bytes key : List ℕ) (child : Option ℕ) → at.leaf ≡ false → child ≡ child_for (children at.page bytes) key
-    → by_child child ≡ visit_of (record { at = at; bytes = bytes }) key
-index_visit at bytes key child index is =
-    ap by_child is ∙ ap (λ b. cond b (Found (message_in (leaf_table bytes) key)) (by_child (child_for (children at.page bytes) key))) (sym index)
 
 module _ (branch : Branch) (page : ℕ) (part : Sealed) (at : At) (bytes : List ℕ) (is : IsPage branch page part) (place_is : at ≡ place part (page % 32)) where
   pub own_number : at.page ≡ page

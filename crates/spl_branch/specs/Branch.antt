@@ -1,10 +1,12 @@
 -- A branch, as contracts see it, and what holds of it.
-use Rattle.std.specs.Prelude.{◌≡◌, ℕ, ◌-◌, ◌<◌, ◌≤◌, ◌↔◌, ◌++◌, true, false, if◌then◌else◌, List, [], length, map, flat_map, replicate, Contains}
+use Rattle.std.specs.Prelude.{◌≡◌, ℕ, ◌-◌, ◌<◌, ◌≤◌, ◌↔◌, ◌++◌, true, false, if◌then◌else◌, List, [], length, map, flat_map, replicate, Contains, None}
+use Rattle.std.specs.List.{AllByRecursion}
 use Rattle.std.specs.Map.{keys_of}
 use Rattle.spl_message.specs.Entries.{Entries}
 use Rattle.spl_message.specs.Table.{Table, IsTable, as_table, cuts_of, key_count}
 use Rattle.spl_page.specs.Tables.{leaf_table}
 use Rattle.spl_port.specs.Counts.{Shown}
+use Rattle.spl_port.specs.Page.{leaf_fault}
 use Rattle.spl_port.specs.Seal.{Sealed}
 use Rattle.spl_quotient.specs.Exponent.{IsExponent}
 use Rattle.spl_quotient.specs.Filter.{Filter}
@@ -50,9 +52,14 @@ entries_in branch = leaf_entries (shown_pages branch.parts)
 abbrev pub table_of : Branch → Table
 table_of branch = as_table (entries_in branch)
 
+-- where it is a leaf page, it is sound
+abbrev pub IsSoundLeaf : Shown → Type 0
+IsSoundLeaf shown = shown.at.leaf ≡ true → leaf_fault shown.at shown.bytes ≡ None
+
 -- the pages hold the table as a tree, whose root is the last page, and all else that is kept is that table's
 pub record HoldsTable (branch : Branch) : Type 0 where
   pub order : IsTable (table_of branch)
+  pub leaves : AllByRecursion IsSoundLeaf (shown_pages branch.parts)
   pub entries : branch.entries ≡ key_count (table_of branch)
   pub cuts : branch.cuts ≡ cuts_of (table_of branch)
   pub tree : IsTree (branch.levels - 1) (shown_pages branch.parts) (page_total branch.parts - 1)

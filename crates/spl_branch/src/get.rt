@@ -1,44 +1,18 @@
-ghost use Rattle.std.specs.Prelude.{◌≡◌, ◌+◌, ◌<◌, ◌≤◌, true, false, None, IfOk, IfErr, OnOk};
-ghost use Rattle.std.specs.List.{slice_get};
-ghost use Rattle.std.specs.Option.{IsSomeAnd};
+ghost use Rattle.std.specs.Prelude.{◌≡◌, ◌+◌, ◌≤◌, true, false, None, IfOk, IfErr, OnOk};
 ghost use Rattle.spl_message.specs.Table.{message_at};
-ghost use Rattle.spl_port.specs.Port.{ReadsOne};
 ghost use Rattle.spl_branch.specs.Branch.{table_of};
-ghost use Rattle.spl_branch.specs.Pages.{AreTold, page_total, shown_pages};
-ghost use Rattle.spl_branch.specs.Path.{IsFoundBy, IsVisit};
+ghost use Rattle.spl_branch.specs.Pages.{AreTold, page_total};
+ghost use Rattle.spl_branch.specs.Path.{IsFoundBy};
 ghost use Rattle.spl_branch.specs.Reading.{HasBranchCause, OnlyReads, ReadsNone, admits, reach_of};
-ghost use Rattle.spl_branch.specs.Visiting.{GoesBelow, HasVisitCause, visit_of};
 
 use crate::BranchFault;
 use crate::branch::{Branch, is_admitted};
-use crate::visit::Visit;
+use crate::visit::message_of;
 use spl_message::{HashedKey, Message};
 use spl_pager::Pager;
 use spl_port::{Port, Seal};
 
 impl<S: Seal> Branch<S> {
-    /// What the page says of the key.
-    fn visit<P: Port<Seal = S>, G: Pager>(
-        &self,
-        port: &mut P,
-        pager: &G,
-        page: u32,
-        key: &HashedKey,
-    ) -> Result<Visit, BranchFault>
-        requires { page < page_total self.now.parts }
-        ensures told { AreTold self.now.parts → IfOk result (λ visit.
-            IsSomeAnd (slice_get (shown_pages self.now.parts) page) (λ shown. visit ≡ visit_of shown key.now)) }
-        ensures given { IfOk result (IsVisit (G.shows pager.now) self.now page key.now (P.counts port.old) (P.counts port.new)) }
-        ensures below { IfOk result (GoesBelow page) }
-        ensures counts { ReadsOne (P.counts port.old) (P.counts port.new) }
-        ensures faults { OnOk result ((P.counts port.new).faults ≡ (P.counts port.old).faults) }
-        ensures cause { IfErr result (HasVisitCause self.now page (P.counts port.old) (P.counts port.new)) }
-    {
-        let page = self.page(port, pager, page)?;
-        let alloc = *self.parts.extents.allocator();
-        Ok(Visit::read(alloc, &page, key)?)
-    }
-
     /// The message that the pages have for the key.
     fn descend<P: Port<Seal = S>, G: Pager>(
         &self,
@@ -54,13 +28,9 @@ impl<S: Seal> Branch<S> {
         ensures faults { OnOk result ((P.counts port.new).faults ≡ (P.counts port.old).faults) }
         ensures cause { IfErr result (HasBranchCause self.now (P.counts port.old) (P.counts port.new)) }
     {
-        let mut page = self.pages - 1;
-        loop {
-            match self.visit(port, pager, page, key)? {
-                Visit::Found(found) => return Ok(found),
-                Visit::Child(child) => page = child,
-            }
-        }
+        let page = self.walk(port, pager, key.key())?;
+        let alloc = *self.parts.extents.allocator();
+        Ok(message_of(alloc, &page, key.key())?)
     }
 
     /// The message that the branch has for the key. A delete is a message.

@@ -5,7 +5,9 @@ mod branch;
 mod fault;
 mod get;
 mod pages;
+mod seek;
 mod visit;
+mod walk;
 
 pub use branch::{Branch, Parts};
 pub use fault::BranchFault;

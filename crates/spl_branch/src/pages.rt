@@ -9,6 +9,7 @@ ghost use Rattle.spl_branch.specs.Branch.{entries_in};
 ghost use Rattle.spl_branch.specs.Leaves.{leaf_tables};
 ghost use Rattle.spl_branch.specs.Pages.{AreTold, page_total, shown_pages};
 ghost use Rattle.spl_branch.specs.Path.{IsGiven};
+ghost use Rattle.spl_branch.specs.Reading.{HasBranchCause};
 ghost use Rattle.spl_branch.specs.Visiting.{HasVisitCause};
 
 use crate::BranchFault;
@@ -24,6 +25,7 @@ impl<S: Seal> Branch<S> {
         ensures number { result ≡ self.now.leaves }
         ensures some { 0 < self.now.leaves }
         ensures within { self.now.leaves ≤ page_total self.now.parts }
+        ensures told { S.TELLS ≡ true → AreTold self.now.parts }
         ensures order { AreTold self.now.parts → entries_in self.now ≡ flat_map (λ entries. entries) (leaf_tables self.now) }
     {
         self.parts.leaves
@@ -44,10 +46,11 @@ impl<S: Seal> Branch<S> {
             IsGiven (G.shows pager.now) self.now number (P.counts port.old) (record { shown = shown_of (arc_value page); after = P.counts port.new })) }
         ensures counts { ReadsOne (P.counts port.old) (P.counts port.new) }
         ensures faults { OnOk result ((P.counts port.new).faults ≡ (P.counts port.old).faults) }
-        ensures cause { IfErr result (HasVisitCause self.now number (P.counts port.old) (P.counts port.new)) }
+        ensures cause { IfErr result (HasBranchCause self.now (P.counts port.old) (P.counts port.new)) }
     {
-        // There are at most as many as pages.
+        // There are at most as many as pages, and those that are told are sound.
         let _leaves = self.leaves();
+        let _parts = &self.parts;
         self.page(port, pager, number)
     }
 

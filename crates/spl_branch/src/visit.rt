@@ -1,38 +1,57 @@
-ghost use Rattle.std.specs.Prelude.{◌≡◌, IfOk};
+//! What a page says of a key on the way down. Nothing is copied but a message.
+ghost use Rattle.std.specs.Prelude.{◌≡◌, ◌^◌, ◌-◌, ◌<◌, true, IfOk, IfSome};
 ghost use Rattle.spl_page.specs.AnyPage.{shown_of};
-ghost use Rattle.spl_branch.specs.Visiting.{GoesBelow, visit_of};
+ghost use Rattle.spl_branch.specs.Visiting.{child_in, message_on, start_on};
 
-use spl_message::{HashedKey, Message, NoMemory};
+use spl_message::{Key, Message, NoMemory};
 use spl_page::AnyPage;
 use std::alloc::Global;
 
-/// What a page says of a key.
-#[derive(Debug, Drop)]
-pub(crate) enum Visit {
-    /// The key's message, or that there is none.
-    Found(Option<Message>),
-    /// The page that goes on.
-    Child(u32),
+/// The page that goes on for the key. There is none below a leaf page, nor where all children begin above the key.
+pub(crate) fn child_of(page: &AnyPage, key: &Key) -> Option<u32>
+    ensures child { result ≡ child_in (shown_of page.now) key.now }
+    ensures below { IfSome result (λ child. child < (shown_of page.now).at.page) }
+{
+    // A page is of the kind that its place asks for.
+    let _at = page.at();
+    match page {
+        AnyPage::Leaf(_) => None,
+        AnyPage::Index(index) => index.child(key),
+    }
 }
 
-impl Visit {
-    /// What the page says of the key. Nothing is copied but the message.
-    pub(crate) fn read(alloc: Global, page: &AnyPage, key: &HashedKey) -> Result<Visit, NoMemory>
-        ensures ok { IfOk result (λ visit. visit ≡ visit_of (shown_of page.now) key.now) }
-        ensures below { IfOk result (GoesBelow (shown_of page.now).at.page) }
-    {
-        // A page is of the kind that its place asks for.
-        let _at = page.at();
-        let key = key.key();
-        match page {
-            AnyPage::Leaf(leaf) => match leaf.find(key) {
-                Some(message) => Ok(Visit::Found(Some(message.copy(alloc)?))),
-                None => Ok(Visit::Found(None)),
-            },
-            AnyPage::Index(index) => match index.child(key) {
-                Some(child) => Ok(Visit::Child(child)),
-                None => Ok(Visit::Found(None)),
-            },
+/// The message of the key, where the way ends at this page.
+pub(crate) fn message_of(
+    alloc: Global,
+    page: &AnyPage,
+    key: &Key,
+) -> Result<Option<Message>, NoMemory>
+    ensures { IfOk result (λ found. found ≡ message_on (shown_of page.now) key.now) }
+{
+    let _at = page.at();
+    match page {
+        AnyPage::Leaf(leaf) => match leaf.find(key) {
+            Some(message) => Ok(Some(message.copy(alloc)?)),
+            None => Ok(None),
+        },
+        AnyPage::Index(_) => Ok(None),
+    }
+}
+
+/// The first leaf page that has an entry not below the key, where the way ends at this page.
+pub(crate) fn start_of(page: &AnyPage, key: &Key) -> u32
+    requires { (shown_of page.now).at.leaf ≡ true → (shown_of page.now).at.page < 2 ^ 32 - 1 }
+    ensures { result ≡ start_on (shown_of page.now) key.now }
+{
+    let number = page.at().page;
+    match page {
+        AnyPage::Leaf(leaf) => {
+            if leaf.seek(key) < leaf.len() {
+                number
+            } else {
+                number + 1
+            }
         }
+        AnyPage::Index(_) => 0,
     }
 }

@@ -51,7 +51,7 @@ nothing_added number = record {
     rising = tt;
     children = tt;
     newest = tt;
-    told = λ told. record { order = tt; hashes = refl; cuts = refl; grove = record { low = tt; high = tt; whole = refl } };
+    told = λ told. record { order = tt; hashes = refl; cuts = refl; grove = record { leaves = tt; low = tt; high = tt; whole = refl } };
   };
   above = refl;
   height = refl;

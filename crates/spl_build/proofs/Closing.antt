@@ -80,6 +80,7 @@ module _ (work : WorkState) (filter : Filter) (sound : IsWork work) (leaf : work
       ∙ sym (map-fingerprint_of filter.q (keys_of (leaf_entries pages))) in
       record {
         order = subst AreEntries table_is told.order;
+        leaves = grove.leaves;
         entries = count;
         cuts = told.cuts ∙ ap (λ (t : Entries). cuts_of (as_table t)) table_is;
         tree = subst (λ (n : ℕ). IsTree (work.levels.height + 1 - 1) pages n) last_is (subst (λ (h : ℕ). IsTree h pages row.child) height_is grove.low.0.0);

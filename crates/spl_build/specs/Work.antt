@@ -12,7 +12,7 @@ use Rattle.spl_port.specs.Page.{IndexRow}
 use Rattle.spl_port.specs.Seal.{Sealed}
 use Rattle.spl_page.specs.Tables.{child_keys, table_length}
 use Rattle.spl_page.specs.LeafPage.{leaf_entry_length}
-use Rattle.spl_branch.specs.Branch.{leaf_entries}
+use Rattle.spl_branch.specs.Branch.{IsSoundLeaf, leaf_entries}
 use Rattle.spl_branch.specs.Pages.{AreTold, kinds_of, page_total, shown_pages}
 use Rattle.spl_branch.specs.Tree.{AreChildren, first_key, tables_under}
 use Rattle.spl_build.specs.Levels.{LevelState}
@@ -43,8 +43,9 @@ rootless levels = levels.above ++ levels.waiting
 abbrev pub HasRoom : List (List ℕ) → Option (List ℕ) → Type 0
 HasRoom keys last = (key : List ℕ) → IfSome last (λ last. is_below last key ≡ true) → AreRising (keys ++ key ∷ [])
 
--- the pages that have no parent yet are the roots of trees, which hold the leaf pages in order
+-- the leaf pages are sound, and the pages that have no parent yet are the roots of trees, which hold the leaf pages in order
 pub record IsGrove (pages : List Shown) (levels : LevelState) : Type 0 where
+  pub leaves : AllByRecursion IsSoundLeaf pages
   pub low : AreChildren levels.height pages levels.waiting
   pub high : AreChildren (suc levels.height) pages levels.above
   pub whole : tables_under (suc levels.height) pages levels.above ++ tables_under levels.height pages levels.waiting ≡ leaf_entries pages

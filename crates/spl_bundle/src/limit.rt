@@ -1,3 +1,6 @@
+ghost use Rattle.std.specs.Prelude.{Some};
+ghost use Rattle.spl_bundle.specs.Limit.{limit_text};
+
 use std::error::Error;
 use std::fmt;
 
@@ -11,6 +14,8 @@ pub enum Limit {
 }
 
 impl fmt::Display for Limit {
+    ghost output = { λ limit. Some (limit_text limit) };
+
     fn fmt<W: fmt::Write>(&self, f: &mut fmt::Formatter<W>) -> fmt::Result {
         match self {
             Limit::Lists { lists } => write!(f, "there are {lists} lists already"),

@@ -1,5 +1,7 @@
-ghost use Rattle.std.specs.Prelude.{◌≡◌, ◌%◌, ◌<◌, ◌*◌};
+ghost use Rattle.std.specs.Prelude.{◌≡◌, ◌+◌, ◌%◌, ◌<◌, ◌*◌, IfErr, IfSome};
+ghost use Rattle.spl_port.specs.Port.{ReadsOne};
 ghost use Rattle.spl_port.specs.Seal.{page_count, place};
+ghost use Rattle.spl_pager.specs.Fetching.{HasFetchCause};
 
 use crate::Cache;
 use spl_page::AnyPage;
@@ -51,7 +53,10 @@ fn fetched<P: Port>(
     port: &mut P,
     cache: &Cache,
     page: &Written<P::Seal>,
-) -> Result<Arc<AnyPage>, FetchFault> {
+) -> Result<Arc<AnyPage>, FetchFault>
+    ensures counts { ReadsOne (P.counts port.old) (P.counts port.new) }
+    ensures cause { IfErr result (HasFetchCause (P.Seal.means page.now.seal) page.now.at (P.counts port.old) (P.counts port.new)) }
+{
     cache.fetch(alloc, port, &page.seal, page.at)
 }
 
@@ -80,6 +85,25 @@ fn a_page_is_read_once_and_the_first_of_nine_comes_back(rt: HostRuntime) -> Resu
     Ok(())
 }
 
+/// What two fetches said of a page, where both refused it alike as damaged. The port has no count of reads to ask for, so it is in the
+/// contract: each of the fetches read the page, once.
+fn refused_twice<P: Port>(
+    alloc: Global,
+    port: &mut P,
+    cache: &Cache,
+    page: &Written<P::Seal>,
+) -> Option<Damaged>
+    ensures { IfSome result (λ _. (P.counts port.new).reads ≡ (P.counts port.old).reads + 2) }
+{
+    let Err(FetchFault::Damaged(first)) = fetched(alloc, port, cache, page) else {
+        return None;
+    };
+    let Err(FetchFault::Damaged(second)) = fetched(alloc, port, cache, page) else {
+        return None;
+    };
+    if first == second { Some(second) } else { None }
+}
+
 #[test]
 fn a_page_that_is_none_is_read_each_time(rt: HostRuntime) -> Result<(), Fail> {
     let alloc = rt.alloc();
@@ -93,17 +117,15 @@ fn a_page_that_is_none_is_read_each_time(rt: HostRuntime) -> Result<(), Fail> {
         leaf: true,
     };
     let why = Why::Kind;
-    for _ in 0..2 {
-        let fault = fetched(alloc, &mut port, &cache, &page).err();
-        assert_eq!(rt; fault, Some(FetchFault::Damaged(Damaged { at, why })));
-    }
+    let said = refused_twice(alloc, &mut port, &cache, &page);
+    assert_eq!(rt; said, Some(Damaged { at, why }));
     Ok(())
 }
 
 /// Fetches the pages in turn, by a port of its own, and says whether each of them was the one that was written.
 fn rounds(alloc: Global, cache: &Cache, pages: &[Written<MemSeal>]) -> bool {
     let mut port = MemPort::new(alloc);
-    for _ in 0..100 {
+    for _ in 0..1_250 {
         for (part, page) in pages.iter().enumerate() {
             let Ok(found) = fetched(alloc, &mut port, cache, page) else {
                 return false;

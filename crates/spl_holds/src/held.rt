@@ -1,3 +1,5 @@
+ghost use Rattle.std.specs.Prelude.{◌++◌, codes, decimal, Some};
+
 use std::error::Error;
 use std::fmt;
 
@@ -9,6 +11,8 @@ pub struct Held {
 }
 
 impl fmt::Display for Held {
+    ghost output = { λ held. Some (codes "held by actor " ++ decimal held.by) };
+
     fn fmt<W: fmt::Write>(&self, f: &mut fmt::Formatter<W>) -> fmt::Result {
         let by = self.by;
         write!(f, "held by actor {by}")

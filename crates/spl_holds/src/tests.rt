@@ -57,6 +57,9 @@ fn a_reader_forbids_a_lock_and_a_claimant_a_claim(rt: HostRuntime) -> Result<(),
     }
     assert!(rt; holds.nodes() < NODES);
     assert_eq!(rt; holds.add(), 1);
+    let refusal = Held { by: 2 };
+    let text = format!(in rt.alloc(); "{refusal}")?;
+    assert_eq!(rt; text.as_str(), "held by actor 2");
     Ok(())
 }
 

@@ -1,3 +1,6 @@
+ghost use Rattle.std.specs.Prelude.{◌≡◌, ◌%◌, ◌<◌, ◌↔◌, IsTrue};
+ghost use Rattle.counted_slot.specs.Counting.{readers};
+
 use crate::word::is_readable;
 use std::error::Error;
 use std::fmt;
@@ -9,8 +12,11 @@ pub struct Found {
 }
 
 impl Found {
-    /// Whether the value could be read under that word, so that a read may succeed if it is tried again at once: another reader came or left in between.
-    pub fn is_readable(&self) -> bool {
+    /// Whether the value could be read under that word, so that a read may succeed if it is tried again at once: another reader came
+    /// or left in between.
+    pub fn is_readable(&self) -> bool
+        ensures { IsTrue result ↔ (self.now.word % 4 ≡ 1) × (readers self.now.word < 1073741823) }
+    {
         is_readable(self.word)
     }
 }

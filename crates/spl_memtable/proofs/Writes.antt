@@ -1,5 +1,5 @@
 -- A message is put at a key.
-use Rattle.std.proofs.Common.{◌≡◌, ◌≢◌, ℕ, ◌+◌, false, List, [], ◌∷◌, ◌++◌, length, add-zero, Option, Some, None, IsSome, Result, Ok, Err, OnErr, option_to_list, Ordering, refl, ap, subst, sym, ◌∙◌}
+use Rattle.std.proofs.Common.{◌≡◌, ◌≢◌, ℕ, ◌+◌, false, List, [], ◌∷◌, ◌++◌, length, add-zero, Option, Some, None, IsSome, Result, Ok, Err, OnErr, option_to_list, Ordering, refl, ap, sym, ◌∙◌}
 use Rattle.std.specs.Prelude.{is_some, if◌then◌else◌}
 use Rattle.std.proofs.lemmas.Map.Steps.{set_value_same}
 use Rattle.std.proofs.lemmas.Map.Lookups.{exact_bytes}

@@ -1,4 +1,4 @@
-ghost use Rattle.std.specs.Prelude.{◌≡◌, ℕ, List, if◌then◌else◌, ◌≤◌, ◌↔◌, [], ◌∷◌, ◌++◌, filter, IsOk, None, Some, IfOk, OnErr};
+ghost use Rattle.std.specs.Prelude.{◌≡◌, ℕ, List, if◌then◌else◌, ◌≤◌, ◌↔◌, [], ◌∷◌, ◌++◌, filter, IsOk, IsSome, None, Some, IfOk, OnErr};
 ghost use Rattle.std.specs.Option.{option_copied};
 ghost use Rattle.spl_message.specs.Entries.{AreEntries};
 ghost use Rattle.spl_message.specs.Message.{combine, IsUpdate};
@@ -66,6 +66,7 @@ impl Memtable {
         ensures full { (result ≡ Ok Put.Full) ↔ IsFull self.old key.now }
         ensures unchanged { result ≡ Ok Put.Full → self.new ≡ self.old }
         ensures done { result ≡ Ok Put.Done → Puts (L.rule law.now) self.old self.new key.now message }
+        ensures free { IsSome (message_at self.old key.now) → ¬ (IsUpdate (Some message)) → IsOk result }
         ensures err { OnErr result (self.new ≡ self.old) }
     {
         if let Some(older) = self.entries.get_mut(key) {

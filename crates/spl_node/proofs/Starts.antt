@@ -1,32 +1,25 @@
 -- The order of the starts of pivots.
-use Rattle.std.proofs.Common.{◌≡◌, ℕ, zero, suc, ◌<◌, ◌≤◌, Bool, true, false, ◌&&◌, not, if◌then◌else◌, List, [], ◌∷◌, Some, None, Option, Ordering, length, refl, sym, ap, subst, ◌∙◌, inl, inr, arith, add-one}
-use Rattle.std.specs.declared.cmp.Ordering.TheVariants.{Less, Equal, Greater}
-use Rattle.std.specs.Cmp.Lexicographic.{slice_cmp}
-use Rattle.std.specs.Ordering.{nat_cmp, is_lt, ordering_reverse}
+use Rattle.std.proofs.Common.{◌≡◌, ℕ, zero, suc, ◌<◌, ◌≤◌, Bool, true, false, ◌&&◌, not, if◌then◌else◌, List, [], ◌∷◌, Some, None, Option, length, refl, sym, ap, subst, ◌∙◌, inl, inr, arith, add-one}
+use Rattle.std.specs.Ordering.{is_lt}
 use Rattle.std.proofs.lemmas.Bool.{cases_lt, false≢true}
 use Rattle.std.proofs.lemmas.Cmp.{nat_list_cmp_total, tied_itself}
 use Rattle.spl_message.specs.declared.span.Span.{Span}
 use Rattle.spl_message.specs.Key.{is_below}
 use Rattle.spl_message.specs.Span.{is_from, is_before, InSpan}
+use Rattle.spl_message.proofs.Spans.{below_trans}
 use Rattle.spl_node.specs.declared.pivot.Pivot.{Pivot}
 use Rattle.spl_node.specs.Node.{pivot_at, is_past, StartsBefore, StartsIn, AreRising}
 use Rattle.spl_node.specs.Steps.{starts_below}
-
-less_is : (o : Ordering) → is_lt o ≡ true → o ≡ Less
-less_is Less h = refl
-less_is Equal h = absurd (false≢true h)
-less_is Greater h = absurd (false≢true h)
-
-pub below_trans : (a b c : List ℕ) → is_below a b ≡ true → is_below b c ≡ true → is_below a c ≡ true
-below_trans a b c ab bc =
-    ap is_lt (nat_list_cmp_total.trans a b c (less_is (slice_cmp nat_cmp a b) ab) (less_is (slice_cmp nat_cmp b c) bc))
 
 pub not_below_self : (a : List ℕ) → is_below a a ≡ false
 not_below_self a = ap is_lt (tied_itself nat_list_cmp_total a)
 
 pub not_below_back : (a b : List ℕ) → is_below a b ≡ true → is_below b a ≡ false
-not_below_back a b ab =
-    ap is_lt (nat_list_cmp_total.antisymm b a ∙ ap ordering_reverse (less_is (slice_cmp nat_cmp a b) ab))
+not_below_back a b ab = by (is_below b a) refl
+  where
+    by : (c : Bool) → is_below b a ≡ c → is_below b a ≡ false
+    by true ba = absurd (false≢true (sym (not_below_self a) ∙ below_trans a b a ab ba))
+    by false ba = ba
 
 pub both : (a b : Bool) → a ≡ true → b ≡ true → (a && b) ≡ true
 both a b p q = ap (λ x. x && b) p ∙ q

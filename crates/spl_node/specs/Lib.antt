@@ -1,3 +1,4 @@
 pub mod Node
 pub mod Steps
+pub mod Parts
 pub mod Body

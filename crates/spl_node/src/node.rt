@@ -1,10 +1,11 @@
 //! `Node`: the calls that read one, make one and change one.
-ghost use Rattle.std.specs.Prelude.{◌≡◌, ℕ, ◌+◌, ◌<◌, ◌≤◌, ◌↔◌, ◌^◌, min, max, map, nat_lt, true, ◌||◌, IsTrue, None, Some, IsSome, IsOk, IfOk, OnOk, OnErr, Err, length};
+ghost use Rattle.std.specs.Prelude.{◌≡◌, ℕ, ◌+◌, ◌<◌, ◌≤◌, ◌↔◌, ◌^◌, min, max, map, nat_lt, true, ◌||◌, IsTrue, None, Some, IsSome, IsOk, IfOk, OnOk, OnErr, Err, List, length};
 ghost use Rattle.std.specs.List.{insert};
 ghost use Rattle.spl_message.specs.Span.{is_from, InSpan};
 ghost use Rattle.spl_bundle.specs.Numbered.{bundle_at, next_of, pushed, merged, marked, released};
 ghost use Rattle.spl_node.specs.Node.{bare, pivot_at, pivot_for, span_of, live_at, is_past, AreRising, StartsIn, IsMark, IsNode};
 ghost use Rattle.spl_node.specs.Steps.{fresh, with_lists, with_pivots, at_mark, with_mark, is_empty, least_mark, kept_from, trimmed, starts_below, IsSplitKey, right_pivots, right_of, left_of, lowered, lifted};
+ghost use Rattle.spl_node.specs.Parts.{IsAlike, IsParted};
 
 use crate::pivot::{Pivot, Pivots};
 use smallvec::SmallVec;
@@ -28,7 +29,8 @@ struct Body {
     lists: Bundles,
 }
 
-/// A node of the trunk. In a clause it is plain data: its height, range, generation, pivots and numbered bundles.
+/// A node of the trunk. In a clause it is plain data: its height, range, generation, pivots and numbered
+/// bundles.
 #[derive(Debug, Drop)]
 pub struct Node {
     body: Box<Body>,
@@ -67,7 +69,8 @@ impl Node {
 
     fn make(alloc: Global, height: u32, child: Option<u32>) -> Result<Node, NoMemory>
         requires { IsSome child ↔ (0 < height) }
-        ensures { IfOk result (λ node. node ≡ fresh height (record { start = None; child = child; mark = 0 })) }
+        ensures { IfOk result (λ node. node
+            ≡ fresh height (record { start = None; child = child; mark = 0 })) }
     {
         let mut pivots = SmallVec::new(alloc);
         pivots.push_reserved(Pivot {
@@ -142,6 +145,8 @@ impl Node {
         ensures value { result ≡ pivot_for self.now.pivots key.now }
         ensures within { result < length self.now.pivots }
         ensures holds { InSpan (span_of self.now result) key.now }
+        ensures only { (other : ℕ) → other < length self.now.pivots
+            → InSpan (span_of self.now other) key.now → other ≡ result }
     {
         let pivots = self.pivots();
         let mut found = 0;
@@ -192,10 +197,13 @@ impl Node {
         least
     }
 
-    /// Drops the bundles at the front that are empty or live for no pivot, and raises the marks below the first
-    /// bundle that is left to its number.
+    /// Drops the bundles at the front that are empty or live for no pivot, and raises the marks below the
+    /// first bundle that is left to its number.
     pub fn trim(&mut self)
-        ensures { self.new ≡ trimmed self.old }
+        ensures value { self.new ≡ trimmed self.old }
+
+        // No key finds other branches or another child.
+        ensures alike { (key : List ℕ) → IsAlike self.old self.new key }
     {
         let kept = self.kept_from();
         let body = &mut *self.body;
@@ -245,7 +253,8 @@ impl Node {
         requires { next_of self.old.lists < 2 ^ 63 }
         ensures number { IfOk result (λ number. number ≡ next_of self.old.lists) }
         ensures ok { OnOk result (self.new ≡ with_lists self.old (pushed self.old.lists list.now)) }
-        ensures accepted { IsOk result ↔ ((length self.old.lists.bundles < MAX_LISTS) × (length list.now ≤ MAX_BRANCHES)) }
+        ensures accepted { IsOk result
+            ↔ ((length self.old.lists.bundles < MAX_LISTS) × (length list.now ≤ MAX_BRANCHES)) }
 
         // That there are too many bundles is said first.
         ensures lists { length self.old.lists.bundles ≡ MAX_LISTS → result ≡ Err (Limit.Lists MAX_LISTS) }
@@ -256,8 +265,8 @@ impl Node {
         self.body.lists.push(list)
     }
 
-    /// Merges the bundles from `first` up to `last`: the last holds the output alone, or nothing, the others are
-    /// empty, and none of them keeps its mark. Those that no longer stand are passed over.
+    /// Merges the bundles from `first` up to `last`: the last holds the output alone, or nothing, the others
+    /// are empty, and none of them keeps its mark. Those that no longer stand are passed over.
     pub fn merge(&mut self, first: u64, last: u64, output: Option<u64>)
         requires in_order { first ≤ last }
         requires stands { self.old.lists.first ≤ last }
@@ -267,8 +276,8 @@ impl Node {
         self.body.lists.merge(first, last, output);
     }
 
-    /// Gives the bundles from `first` up to `last` the mark of an actor, or none. Those that no longer stand are
-    /// passed over.
+    /// Gives the bundles from `first` up to `last` the mark of an actor, or none. Those that no longer stand
+    /// are passed over.
     pub fn set_ticket(&mut self, first: u64, last: u64, actor: Option<u32>)
         requires in_order { first ≤ last }
         requires stands { self.old.lists.first ≤ last }
@@ -288,7 +297,10 @@ impl Node {
     /// The part of a split from the key on.
     pub fn right(&self, alloc: Global, key: &Key) -> Result<Node, NoMemory>
         requires { IsSplitKey self.now key.now }
-        ensures { IfOk result (λ node. node ≡ right_of self.now key.now) }
+        ensures value { IfOk result (λ node. node ≡ right_of self.now key.now) }
+
+        // Each key lies in one of the two parts, under the same child and with the same live branches.
+        ensures parts { IsParted self.now (left_of self.now key.now) (right_of self.now key.now) }
     {
         let range = Span {
             from: Some(*key),
@@ -319,7 +331,10 @@ impl Node {
     pub fn keep_left(&mut self, key: &Key)
         requires key { IsSplitKey self.old key.now }
         requires generation { self.old.generation < 2 ^ 63 }
-        ensures { self.new ≡ left_of self.old key.now }
+        ensures value { self.new ≡ left_of self.old key.now }
+
+        // Each key lies in one of the two parts, under the same child and with the same live branches.
+        ensures parts { IsParted self.old self.new (right_of self.old key.now) }
     {
         let kept = self.starts_below(key);
         let body = &mut *self.body;
@@ -359,7 +374,8 @@ impl Node {
     ) -> Result<Node, NoMemory>
         requires node { IsNode (record self.now { range = range; generation = 0; pivots = pivots.items }) }
         requires room { MAX_PIVOTS ≤ pivots.capacity }
-        ensures { IfOk result (λ node. node ≡ record self.now { range = range; generation = 0; pivots = pivots.items }) }
+        ensures { IfOk result (λ node. node
+            ≡ record self.now { range = range; generation = 0; pivots = pivots.items }) }
     {
         let body = Body {
             height: self.body.height,
@@ -394,14 +410,16 @@ impl Node {
 
 /// Whether there is such a pivot, and it starts at the key or below it.
 fn is_started(pivots: &[Pivot], at: usize, key: &Key) -> bool
-    ensures { IsTrue result ↔ ((at < length pivots.now) × (is_from (pivot_at pivots.now at).start key.now ≡ true)) }
+    ensures { IsTrue result
+        ↔ ((at < length pivots.now) × (is_from (pivot_at pivots.now at).start key.now ≡ true)) }
 {
     at < pivots.len() && pivots[at].starts_by(key)
 }
 
 /// Whether there is such a pivot, and it starts below the key.
 fn is_passed(pivots: &[Pivot], at: usize, key: &Key) -> bool
-    ensures { IsTrue result ↔ ((at < length pivots.now) × (is_past (pivot_at pivots.now at).start key.now ≡ true)) }
+    ensures { IsTrue result
+        ↔ ((at < length pivots.now) × (is_past (pivot_at pivots.now at).start key.now ≡ true)) }
 {
     at < pivots.len() && pivots[at].starts_below(key)
 }

@@ -1,11 +1,10 @@
 pub mod FrameLemmas
 pub mod Halves
 pub mod IndexReading
-pub mod IndexTables
-pub mod IndexWriting
+pub mod IndexText
 pub mod LeafReading
-pub mod LeafTables
-pub mod LeafWriting
+pub mod LeafText
+pub mod Lists
 pub mod Numbers
 pub mod PageTables
 pub mod PageText
@@ -15,3 +14,4 @@ pub mod Scanning
 pub mod Searching
 pub mod SoundTables
 pub mod Starts
+pub mod Writing

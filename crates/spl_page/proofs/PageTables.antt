@@ -43,7 +43,7 @@ each_more P None more here others = tt
 each_more P (Some r) None here others = tt
 each_more P (Some r) (Some m) here others = (here r refl, others)
 
-each : {R : Type 0} (P : R → Type 0) (row : List ℕ → Option R) (row_length : List ℕ → ℕ) → ((bytes : List ℕ) (r : R) → row bytes ≡ Some r → P r)
+pub each : {R : Type 0} (P : R → Type 0) (row : List ℕ → Option R) (row_length : List ℕ → ℕ) → ((bytes : List ℕ) (r : R) → row bytes ≡ Some r → P r)
     → (n : ℕ) (bytes : List ℕ) → AllByRecursion P (found_rows (rows_of row row_length n bytes))
 each P row row_length holds zero bytes = tt
 each P row row_length holds (suc n) bytes =

@@ -1,13 +1,12 @@
--- Keys that rise: with one more at their end, by the page grammar's test and in the order of tables.
-use Rattle.std.proofs.Common.{◌≡◌, ℕ, suc, ◌-◌, ◌<◌, Bool, true, false, ◌&&◌, List, [], ◌∷◌, ◌++◌, Ordering, Option, Some, None, length, length-append, refl, sym, ap, subst, ◌∙◌, arith}
-use Rattle.std.specs.List.{slice_get, AllByRecursion}
+-- Keys that rise: with one more at their end, by the page grammar's test and in the order of tables, and the first ones of them.
+use Rattle.std.proofs.Common.{◌≡◌, ℕ, ◌<◌, Bool, true, false, ◌&&◌, List, [], ◌∷◌, ◌++◌, Ordering, length, refl, sym, ap, ◌∙◌, arith}
+use Rattle.std.specs.List.{AllByRecursion}
 use Rattle.std.specs.List.Sorted.{IsStrictlySortedBy}
 use Rattle.std.specs.Ordering.{nat_cmp, is_lt}
 use Rattle.std.specs.Cmp.Lexicographic.{slice_cmp, nat_list_cmp_total}
 use Rattle.std.specs.declared.cmp.Ordering.TheVariants.{Less, Equal, Greater}
 use Rattle.std.proofs.lemmas.Bool.{and_from, and_parts}
-use Rattle.std.specs.Prelude.{MatchOption}
-use Rattle.spl_message.specs.Key.{AreRising, is_below}
+use Rattle.spl_message.specs.Key.{AreRising}
 use Rattle.spl_port.specs.Page.{is_rising, is_rising_above}
 
 and_assoc : (a b c : Bool) → (a && (b && c)) ≡ ((a && b) && c)
@@ -19,25 +18,12 @@ abbrev pub last_of : List ℕ → List (List ℕ) → List ℕ
 last_of key [] = key
 last_of key (next ∷ keys) = last_of next keys
 
-last_at : (key : List ℕ) (keys : List (List ℕ)) → slice_get (key ∷ keys) (length keys) ≡ Some (last_of key keys)
-last_at key [] = refl
-last_at key (next ∷ keys) = last_at next keys
-
 rising_above_push : (last : List ℕ) (keys : List (List ℕ)) (key : List ℕ)
     → is_rising_above last (keys ++ key ∷ []) ≡ (is_rising_above last keys && is_lt (slice_cmp nat_cmp (last_of last keys) key))
 rising_above_push last [] key = elim (is_lt (slice_cmp nat_cmp last key)) as (λ b. (b && true) ≡ b) [ true ↦ refl | false ↦ refl ]
 rising_above_push last (next ∷ keys) key =
     ap (λ (b : Bool). is_lt (slice_cmp nat_cmp last next) && b) (rising_above_push next keys key)
     ∙ and_assoc (is_lt (slice_cmp nat_cmp last next)) (is_rising_above next keys) (is_lt (slice_cmp nat_cmp (last_of next keys) key))
-
-pub rising_push : (keys : List (List ℕ)) (last key : List ℕ) → slice_get keys (length keys - 1) ≡ Some last
-    → is_rising (keys ++ key ∷ []) ≡ (is_rising keys && is_lt (slice_cmp nat_cmp last key))
-rising_push [] last key at = absurd cc
-rising_push (first ∷ keys) last key at =
-    let end : suc (length keys) - 1 ≡ length keys = omega arith in
-    let same : Some (last_of first keys) ≡ Some last = sym (last_at first keys) ∙ ap (slice_get (first ∷ keys)) (sym end) ∙ at in
-    let is : last_of first keys ≡ last = cc in
-    rising_above_push first keys key ∙ ap (λ (k : List ℕ). is_rising_above first keys && is_lt (slice_cmp nat_cmp k key)) is
 
 pub last_of_push : (last : List ℕ) (keys : List (List ℕ)) (key : List ℕ) → last_of last (keys ++ key ∷ []) ≡ key
 last_of_push last [] key = refl
@@ -91,36 +77,13 @@ unfolding IsStrictlySortedBy
 rising_passed [] passes = tt
 rising_passed (key ∷ keys) passes = are_above key keys passes
 
--- ---- keys with the last one, as a caller has it that puts one key after the other
+-- ---- the first ones of keys that rise
 
--- these keys rise, and this is the last one of them, if there is one
-pub record Ends (keys : List (List ℕ)) (last : Option (List ℕ)) : Type 0 where
-  pub order : AreRising keys
-  pub end : slice_get keys (length keys - 1) ≡ last
+all_front : (P : List ℕ → Type 0) (keys more : List (List ℕ)) → AllByRecursion P (keys ++ more) → AllByRecursion P keys
+all_front P [] more are = tt
+all_front P (key ∷ keys) more are = (are.0, all_front P keys more are.1)
 
-pub ends_none : (keys : List (List ℕ)) → keys ≡ [] → Ends keys None
+pub rising_front : (keys more : List (List ℕ)) → AreRising (keys ++ more) → AreRising keys
 unfolding IsStrictlySortedBy
-ends_none keys is = subst (λ ks. Ends ks None) (sym is) (record { order = tt; end = refl })
-
--- a key above the last one rises above all
-pub rises_after : (keys : List (List ℕ)) (last : Option (List ℕ)) (key : List ℕ) → Ends keys last → MatchOption last (Unit {0}) (λ k. is_below k key ≡ true)
-    → AreRising (keys ++ key ∷ [])
-unfolding IsStrictlySortedBy
-rises_after [] last key ends above = (tt, tt)
-rises_after (first ∷ keys) None key ends above =
-    let end : suc (length keys) - 1 ≡ length keys = omega arith in
-    let some : Some (last_of first keys) ≡ None = sym (last_at first keys) ∙ ap (slice_get (first ∷ keys)) (sym end) ∙ ends.end in
-    absurd (cc)
-rises_after (first ∷ keys) (Some last) key ends above =
-    rising_passed (first ∷ keys ++ key ∷ [])
-    (rising_push (first ∷ keys) last key ends.end ∙ and_from _ _ (passes_rising (first ∷ keys) ends.order) above)
-
-pushed_at : (keys : List (List ℕ)) (key : List ℕ) → slice_get (keys ++ key ∷ []) (length keys) ≡ Some key
-pushed_at [] key = refl
-pushed_at (first ∷ keys) key = pushed_at keys key
-
-pub ends_push : (keys : List (List ℕ)) (last : Option (List ℕ)) (key : List ℕ) → Ends keys last → MatchOption last (Unit {0}) (λ k. is_below k key ≡ true)
-    → Ends (keys ++ key ∷ []) (Some key)
-ends_push keys last key ends above =
-    let len : length (keys ++ key ∷ []) - 1 ≡ length keys = omega (arith, length-append keys (key ∷ [])) in
-    record { order = rises_after keys last key ends above; end = ap (slice_get (keys ++ key ∷ [])) len ∙ pushed_at keys key }
+rising_front [] more order = tt
+rising_front (key ∷ keys) more order = (all_front (λ other. slice_cmp nat_cmp key other ≡ Less) keys more order.0, rising_front keys more order.1)

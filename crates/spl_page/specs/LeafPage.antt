@@ -1,10 +1,9 @@
 -- Leaf pages as lists of keys and messages.
-use Rattle.std.specs.Prelude.{◌≡◌, ℕ, ◌+◌, ◌-◌, ◌^◌, ◌≤◌, min, nat_le, Bool, not, ◌==◌, ◌&&◌, ◌||◌, IsTrue, List, [], ◌∷◌, ◌++◌, length, drop, map, sum_by, Some}
+use Rattle.std.specs.Prelude.{◌≡◌, ℕ, ◌+◌, ◌-◌, ◌^◌, min, nat_le, Bool, not, ◌==◌, ◌&&◌, ◌||◌, IsTrue, List, [], ◌∷◌, length, map, sum_by}
 use Rattle.byteorder.specs.Endian.{big_bytes}
 use Rattle.spl_message.specs.declared.message.Message.{Message}
 use Rattle.spl_message.specs.declared.message.Message.TheVariants.{Insert, Delete, Update}
-use Rattle.spl_message.specs.Key.{IsKey}
-use Rattle.spl_port.specs.Page.{LeafRow, leaf_rows, is_rising}
+use Rattle.spl_port.specs.Page.{LeafRow, is_rising}
 use Rattle.spl_page.specs.declared.leaf_entry.LeafEntry.{LeafEntry}
 
 -- the number of a message's kind
@@ -42,23 +41,11 @@ leaf_entry_length key message = 4 + length key + length (value_of message)
 abbrev pub leaf_length : List LeafEntry → ℕ
 leaf_length entries = 16 + sum_by (λ entry. leaf_entry_length entry.key entry.message) entries
 
--- the bytes of an entry
-abbrev pub leaf_entry_text : LeafEntry → List ℕ
-leaf_entry_text entry =
-    length entry.key ∷ kind_of entry.message ∷ (big_bytes 2 (length (value_of entry.message)) ++ (entry.key ++ value_of entry.message))
-
--- an entry that can be written
-pub record IsEntry (entry : LeafEntry) : Type 0 where
-  pub key : IsKey entry.key
-  pub value : length (value_of entry.message) ≤ 512
+-- the bytes of an entry before its key
+abbrev pub leaf_head : ℕ → ℕ → ℕ → List ℕ
+leaf_head key kind value = key ∷ kind ∷ big_bytes 2 value
 
 -- the keys rise, and the count of bytes is right, up to its type's end
 pub record IsSound (entries : List LeafEntry) (bytes : ℕ) : Type 0 where
   pub rising : IsTrue (is_rising (leaf_keys entries))
   pub length : bytes ≡ min (leaf_length entries) (2 ^ 64 - 1)
-
--- these are the entries that stand in a page
-pub record IsFound (bytes : List ℕ) (entries : List LeafEntry) (end : ℕ) : Type 0 where
-  pub rows : leaf_rows bytes ≡ Some (record { rows = leaf_rows_of entries; rest = drop end bytes })
-  pub length : end ≡ leaf_length entries
-  pub within : end ≤ 4096

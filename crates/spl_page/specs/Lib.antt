@@ -1,11 +1,10 @@
 pub mod AnyPage
 pub mod Frame
 pub mod IndexPage
-pub mod IndexWriter
 pub mod LeafPage
-pub mod LeafWriter
 pub mod Lent
 pub mod PageFault
 pub mod Slots
 pub mod Sound
 pub mod Tables
+pub mod Writer

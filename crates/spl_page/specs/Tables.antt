@@ -16,6 +16,10 @@ message_of row = if row.kind == 0 then Insert row.value else (if row.kind == 1 t
 abbrev pub table_entry : LeafRow → List ℕ × Message
 table_entry row = (row.key, message_of row)
 
+-- how many bytes it takes
+abbrev pub leaf_size : LeafRow → ℕ
+leaf_size row = leaf_entry_length row.key (message_of row)
+
 -- the entries of a page that were found there
 abbrev pub found_rows : {R : Type 0} → Option (Rows R) → List R
 found_rows None = []

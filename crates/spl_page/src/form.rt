@@ -27,6 +27,12 @@ pub trait Form: Drop {
 
     ghost entry_key: { Entry → List ℕ };
 
+    /// How many bytes an entry takes that is written.
+    ghost size: { Entry → ℕ };
+
+    /// Whether it can stand in a page with this number.
+    ghost IsAt: { ℕ → Entry → Type 0 };
+
     /// Where the entry at the front of these bytes of a page with this number lies, if there is one.
     fn slot<'a>(page: u32, bytes: &'a [u8]) -> Option<Slot<'a>>
         ensures key { option_map (λ slot. slot.key.now) result ≡ option_map entry_key (entry page bytes.now) }
@@ -41,6 +47,7 @@ pub struct LeafForm;
 impl Form for LeafForm {
     ghost use Rattle.std.specs.Prelude.{true};
     ghost use Rattle.spl_port.specs.Page.{LeafRow, leaf_row, leaf_row_length};
+    ghost use Rattle.spl_page.specs.Tables.{leaf_size};
 
     const KIND: u8 = LEAF_KIND;
 
@@ -56,6 +63,10 @@ impl Form for LeafForm {
 
     ghost entry_key = { λ row. row.key };
 
+    ghost size = { leaf_size };
+
+    ghost IsAt = { λ _ _. Unit {0} };
+
     fn slot<'a>(_page: u32, bytes: &'a [u8]) -> Option<Slot<'a>> {
         let slot = LeafSlot::read(bytes)?;
         Some(Slot {
@@ -70,8 +81,9 @@ impl Form for LeafForm {
 pub struct IndexForm;
 
 impl Form for IndexForm {
-    ghost use Rattle.std.specs.Prelude.{false};
+    ghost use Rattle.std.specs.Prelude.{false, ◌<◌};
     ghost use Rattle.spl_port.specs.Page.{IndexRow, index_row, index_row_length};
+    ghost use Rattle.spl_page.specs.IndexPage.{index_entry_length};
 
     const KIND: u8 = INDEX_KIND;
 
@@ -86,6 +98,10 @@ impl Form for IndexForm {
     ghost entry_length = { index_row_length };
 
     ghost entry_key = { λ row. row.key };
+
+    ghost size = { λ row. index_entry_length row.key };
+
+    ghost IsAt = { λ page row. row.child < page };
 
     fn slot<'a>(page: u32, bytes: &'a [u8]) -> Option<Slot<'a>> {
         let slot = IndexSlot::read(bytes, page)?;

@@ -1,22 +1,23 @@
-ghost use Rattle.std.specs.Prelude.{◌≡◌, ◌+◌, ◌<◌, ◌≤◌, ◌↔◌, ◌++◌, [], ◌∷◌, false, length, All, flat_map, IsTrue, IfOk, IfErr, IfSome, OnOk, OnErr, MatchOption};
-ghost use Rattle.std.specs.Option.{option_map};
-ghost use Rattle.spl_message.specs.Key.{IsKey};
-ghost use Rattle.spl_port.specs.Page.{IsIndexPage, index_row, index_row_length, index_rows, is_rising};
+ghost use Rattle.std.specs.Prelude.{◌≡◌, ◌+◌, ◌*◌, ◌<◌, ◌≤◌, ◌↔◌, ◌++◌, [], ◌∷◌, false, length, All, Some, IsSome, IsTrue, IfOk, IfErr, OnOk, OnErr};
+ghost use Rattle.spl_message.specs.Key.{AreRising};
+ghost use Rattle.spl_port.specs.Page.{IsIndexPage, index_row, index_row_length, is_rising};
 ghost use Rattle.spl_page.specs.PageFault.{IsFaultOf};
-ghost use Rattle.spl_page.specs.IndexPage.{IsFound, first_keys, index_entry_length, index_entry_text, index_length, index_row_of, index_rows_of};
+ghost use Rattle.spl_page.specs.IndexPage.{first_keys, index_entry_length, index_length, index_row_of, index_rows_of};
+ghost use Rattle.spl_page.specs.Sound.{AreStarts, entries_of};
+ghost use Rattle.spl_page.specs.Tables.{child_keys, children_length};
+ghost use Rattle.spl_page.specs.Writer.{written_children};
 
-use crate::any_page::fault_of;
-use crate::frame::{HEAD_BYTES, INDEX_KIND, entry_count, write_head};
-use crate::index_slot::{ENTRY_HEAD, IndexSlot};
-use crate::{IndexEntry, PageFault};
-use byteorder::{BigEndian, ByteOrder};
+use crate::frame::{HEAD_BYTES, entry_count};
+use crate::index_slot::IndexSlot;
+use crate::index_writer::{entry_length, push_child};
+use crate::scan::{ENTRY_LIMIT, form_fault};
+use crate::sound_page::bytes_from;
+use crate::writer::Writer;
+use crate::{IndexEntry, IndexForm, PageFault};
 use spl_message::{Key, NoMemory};
 use spl_port::{At, Damaged, PAGE_BYTES, PageBytes};
 use std::alloc::Global;
 use std::marker::Model;
-
-/// The first byte of an index page.
-pub(crate) const KIND: u8 = 0x49;
 
 /// A list of children with their first keys, which rise. In a clause it is that list.
 #[derive(Debug, Drop)]
@@ -85,14 +86,9 @@ impl IndexPage {
         requires children { All (λ entry. entry.child < at.page) self.now }
         ensures { IfOk result (λ page. IsIndexPage at page (index_rows_of self.now)) }
     {
-        let entries = self.entries.as_slice();
-        let head = write_head(INDEX_KIND, entries.len() as u16, at);
-        let alloc = *self.entries.allocator();
-        let mut out = Vec::with_capacity(alloc, PAGE_BYTES)?;
-        out.extend_from_slice(&head)?;
-        write_entries(&mut out, entries)?;
-        out.resize(PAGE_BYTES, 0)?;
-        Ok(PageBytes::from_vec(out))
+        let mut page = Writer::new(*self.entries.allocator());
+        write_entries(&mut page, self.entries.as_slice())?;
+        page.finish(at)
     }
 
     /// The page that the bytes are, if they are an index page for the place.
@@ -101,91 +97,75 @@ impl IndexPage {
         ensures ok { IfOk result (λ page. IsIndexPage at bytes.now (index_rows_of page)) }
         ensures err { IfErr result (IsFaultOf at bytes.now) }
     {
-        if let Some(why) = fault_of(bytes, at) {
+        let mut starts = [0; ENTRY_LIMIT];
+        if let Some(why) = form_fault::<IndexForm>(bytes, at, &mut starts) {
             return Err(PageFault::Damaged(Damaged { at, why }));
         }
-        let found = match read_entries(alloc, bytes, at.page)? {
-            Some(found) => found,
-            None => unreachable!(),
-        };
+        let count = entry_count(bytes) as usize;
+        let Found { entries, end } = read_entries(alloc, bytes, at.page, &starts[..count])?;
         Ok(IndexPage {
-            entries: found.entries,
-            bytes: found.end,
+            entries,
+            bytes: end,
         })
     }
 }
 
-/// The entries that stand in a page.
-#[derive(Debug, Drop)]
+/// Puts the children into a page with none.
+fn write_entries(page: &mut Writer<IndexForm>, entries: &[IndexEntry]) -> Result<(), NoMemory>
+    requires empty { written_children page.old ≡ [] }
+    requires rising { AreRising (child_keys (index_rows_of entries.now)) }
+    requires fits { children_length (index_rows_of entries.now) ≤ 4096 }
+    ensures { OnOk result (written_children page.new ≡ index_rows_of entries.now) }
+{
+    for entry in entries {
+        push_child(page, entry.child, &entry.first)?;
+    }
+    Ok(())
+}
+
+/// The entries of a page.
+#[derive(Drop)]
 struct Found {
     entries: Vec<IndexEntry>,
     /// The place behind the last entry.
     end: usize,
 }
 
-/// The entries that stand in a page with this number, if they are there.
-fn read_entries(alloc: Global, bytes: &[u8], page: u32) -> Result<Option<Found>, NoMemory>
-    requires { length bytes.now ≡ 4096 }
-    ensures { IfOk result (λ answer. MatchOption answer (index_rows page bytes.now ≡ None) (λ found. IsFound page bytes.now found.entries.items found.end)) }
+/// The entries of a page with this number, which start at these places.
+fn read_entries(
+    alloc: Global,
+    bytes: &[u8; PAGE_BYTES],
+    page: u32,
+    starts: &[u16],
+) -> Result<Found, NoMemory>
+    requires places { AreStarts (index_row page) index_row_length bytes.now starts.now }
+    requires few { length starts.now ≤ 816 }
+    ensures ok { IfOk result (λ found. entries_of (index_row page) index_row_length bytes.now ≡ index_rows_of found.entries.items) }
+    ensures end { IfOk result (λ found. found.end ≡ index_length found.entries.items) }
+    ensures short { IfOk result (λ found. found.end ≤ 16 + 580 * 816) }
 {
     let mut entries = Vec::new(alloc);
     let mut end = HEAD_BYTES;
-    let count = entry_count(bytes);
-    for _ in 0..count {
-        let Some(entry) = read_entry(&bytes[end..], page) else {
-            return Ok(None);
-        };
+    for start in starts {
+        let entry = read_entry(bytes_from(bytes, *start), page);
         end += entry_length(&entry.first);
         entries.push(entry)?;
     }
-    Ok(Some(Found { entries, end }))
+    Ok(Found { entries, end })
 }
 
-/// The entry at the front of these bytes of a page with this number, if there is one.
-fn read_entry(bytes: &[u8], page: u32) -> Option<IndexEntry>
-    ensures value { option_map index_row_of result ≡ index_row page bytes.now }
-    ensures length { IfSome result (λ entry. index_row_length bytes.now ≡ index_entry_length entry.first) }
-    ensures within { IfSome result (λ entry. index_entry_length entry.first ≤ length bytes.now) }
+/// The entry at the front of these bytes of a page with this number.
+fn read_entry(bytes: &[u8], page: u32) -> IndexEntry
+    requires { IsSome (index_row page bytes.now) }
+    ensures { index_row page bytes.now ≡ Some (index_row_of result) }
 {
-    let slot = IndexSlot::read(bytes, page)?;
+    let slot = match IndexSlot::read(bytes, page) {
+        Some(slot) => slot,
+        None => unreachable!(),
+    };
     let child = slot.child;
     match Key::read(slot.key) {
-        Ok(first) => Some(IndexEntry { child, first }),
+        Ok(first) => IndexEntry { child, first },
         Err(_) => unreachable!(),
     }
-}
-
-/// How many bytes an entry with this first key takes.
-pub(crate) fn entry_length(key: &Key) -> usize
-    ensures value { result ≡ index_entry_length key.now }
-    ensures is_key { IsKey key.now }
-{
-    ENTRY_HEAD + key.bytes().len()
-}
-
-/// Puts the bytes of the entries at the end.
-fn write_entries(out: &mut Vec<u8>, entries: &[IndexEntry]) -> Result<(), NoMemory>
-    ensures ok { OnOk result (out.new.items ≡ out.old.items ++ flat_map index_entry_text entries.now) }
-    ensures keys { OnOk result (All (λ entry. IsKey entry.first) entries.now) }
-{
-    for entry in entries {
-        write_entry(out, entry.child, &entry.first)?;
-    }
-    Ok(())
-}
-
-/// Puts the bytes of an entry at the end.
-pub(crate) fn write_entry(out: &mut Vec<u8>, child: u32, first: &Key) -> Result<(), NoMemory>
-    ensures ok { OnOk result (out.new.items ≡ out.old.items ++ index_entry_text (record { child = child; first = first.now })) }
-    ensures err { OnErr result (out.new.items ≡ out.old.items) }
-    ensures is_key { IsKey first.now }
-{
-    let key = first.bytes();
-    let mut head = [0; ENTRY_HEAD];
-    BigEndian::write_u32(&mut head, child);
-    head[4] = key.len() as u8;
-    out.reserve(ENTRY_HEAD + key.len())?;
-    out.extend_from_slice(&head)?;
-    out.extend_from_slice(key)?;
-    Ok(())
 }

@@ -1,4 +1,5 @@
 ghost use Rattle.std.specs.Prelude.{◌≡◌, ◌<◌, ◌≤◌, length};
+ghost use Rattle.spl_page.specs.IndexPage.{index_head};
 
 use byteorder::{BigEndian, ByteOrder};
 use spl_message::KEY_LIMIT;
@@ -49,4 +50,15 @@ impl<'a> IndexSlot<'a> {
     {
         ENTRY_HEAD + self.key.len()
     }
+}
+
+/// The bytes of an entry before its key.
+pub(crate) fn entry_head(child: u32, key: &[u8]) -> [u8; ENTRY_HEAD]
+    requires { length key.now ≤ 64 }
+    ensures { result ≡ index_head child (length key.now) }
+{
+    let mut head = [0; ENTRY_HEAD];
+    BigEndian::write_u32(&mut head, child);
+    head[4] = key.len() as u8;
+    head
 }

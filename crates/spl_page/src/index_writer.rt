@@ -4,12 +4,13 @@ ghost use Rattle.spl_port.specs.Page.{index_fault};
 ghost use Rattle.spl_port.specs.Seal.{begins_leaf};
 ghost use Rattle.spl_page.specs.IndexPage.{index_entry_length};
 ghost use Rattle.spl_page.specs.Tables.{child_keys, children, children_length};
+ghost use Rattle.spl_page.specs.Writer.{written_children};
 
-use crate::frame::{HEAD_BYTES, INDEX_KIND, write_head};
-use crate::index_page::{entry_length, write_entry};
-use crate::page_text::{begin_page, finish_page};
+use crate::IndexForm;
+use crate::index_slot::{ENTRY_HEAD, entry_head};
+use crate::writer::Writer;
 use spl_message::{Key, NoMemory};
-use spl_port::{At, PAGE_BYTES, PageBytes};
+use spl_port::{At, PageBytes};
 use std::alloc::Global;
 use std::marker::Model;
 
@@ -18,23 +19,17 @@ use std::marker::Model;
 /// It has memory for one page from the first child on, and gives that memory away as the page.
 #[derive(Debug, Drop)]
 pub struct IndexWriter {
-    /// Room for the first 16 bytes, and the entries; or nothing yet.
-    bytes: Vec<u8>,
-    /// How many children there are.
-    count: u16,
+    page: Writer<IndexForm>,
 }
 
 impl Model for IndexWriter {
     ghost use Rattle.std.specs.Prelude.{List};
     ghost use Rattle.spl_port.specs.Page.{IndexRow};
+    ghost use Rattle.spl_page.specs.Writer.{written_children};
 
     ghost Value = { List IndexRow };
 
-    ghost use Rattle.spl_page.specs.IndexWriter.{IsWritten, written_children};
-
-    ghost view = { λ w. written_children w.count w.bytes.items };
-
-    ghost invariant = { λ w. IsWritten (written_children w.count w.bytes.items) w.count w.bytes.items };
+    ghost view = { λ w. written_children w.page };
 }
 
 impl IndexWriter {
@@ -43,8 +38,7 @@ impl IndexWriter {
         ensures { result ≡ [] }
     {
         IndexWriter {
-            bytes: Vec::new(alloc),
-            count: 0,
+            page: Writer::new(alloc),
         }
     }
 
@@ -53,7 +47,7 @@ impl IndexWriter {
         ensures value { result ≡ length self.now }
         ensures most { result ≤ 680 }
     {
-        self.count as usize
+        self.page.len()
     }
 
     /// Whether the page still has room for a child with this first key. An empty page has.
@@ -61,7 +55,7 @@ impl IndexWriter {
         ensures value { IsTrue result ↔ (children_length self.now + index_entry_length first.now ≤ 4096) }
         ensures short { index_entry_length first.now ≤ 69 }
     {
-        self.bytes.len().max(HEAD_BYTES) <= PAGE_BYTES - entry_length(first)
+        self.page.fits(entry_length(first))
     }
 
     /// Puts a child at the end.
@@ -71,10 +65,7 @@ impl IndexWriter {
         ensures ok { OnOk result (self.new ≡ self.old ++ record { child = child; key = first.now } ∷ []) }
         ensures err { OnErr result (self.new ≡ self.old) }
     {
-        begin_page(&mut self.bytes)?;
-        write_entry(&mut self.bytes, child, first)?;
-        self.count += 1;
-        Ok(())
+        push_child(&mut self.page, child, first)
     }
 
     /// The page's bytes for a place. The writer is then empty, and takes no memory.
@@ -88,9 +79,31 @@ impl IndexWriter {
         ensures ok { OnOk result (self.new ≡ []) }
         ensures err { OnErr result (self.new ≡ self.old) }
     {
-        let head = write_head(INDEX_KIND, self.count, at);
-        let page = finish_page(&mut self.bytes, &head)?;
-        self.count = 0;
-        Ok(page)
+        self.page.finish(at)
     }
+}
+
+/// Puts a child at the end of a page.
+pub(crate) fn push_child(
+    page: &mut Writer<IndexForm>,
+    child: u32,
+    first: &Key,
+) -> Result<(), NoMemory>
+    requires rising { AreRising (child_keys (written_children page.old
+        ++ record { child = child; key = first.now } ∷ [])) }
+    requires fits { children_length (written_children page.old) + index_entry_length first.now ≤ 4096 }
+    ensures ok { OnOk result (written_children page.new ≡ written_children page.old
+        ++ record { child = child; key = first.now } ∷ []) }
+    ensures err { OnErr result (page.new ≡ page.old) }
+{
+    let key = first.bytes();
+    page.push(&entry_head(child, key), key, &[])
+}
+
+/// How many bytes an entry with this first key takes.
+pub(crate) fn entry_length(first: &Key) -> usize
+    ensures value { result ≡ index_entry_length first.now }
+    ensures short { result ≤ 69 }
+{
+    ENTRY_HEAD + first.bytes().len()
 }

@@ -1,15 +1,19 @@
-ghost use Rattle.std.specs.Prelude.{◌≡◌, ◌+◌, ◌<◌, ◌≤◌, ◌↔◌, ◌++◌, [], ◌∷◌, true, length, All, flat_map, IsTrue, IfOk, IfErr, IfSome, OnOk, OnErr, MatchOption};
-ghost use Rattle.std.specs.Option.{option_map};
-ghost use Rattle.spl_port.specs.Page.{IsLeafPage, is_rising, leaf_row, leaf_row_length, leaf_rows};
+ghost use Rattle.std.specs.Prelude.{◌≡◌, ◌+◌, ◌*◌, ◌<◌, ◌≤◌, ◌↔◌, ◌++◌, [], ◌∷◌, true, length, map, sum_by, Some, IsSome, IsTrue, IfOk, IfErr, OnOk, OnErr};
+ghost use Rattle.spl_message.specs.Key.{AreRising};
+ghost use Rattle.spl_port.specs.Page.{IsLeafPage, is_rising, leaf_row, leaf_row_length};
 ghost use Rattle.spl_page.specs.PageFault.{IsFaultOf};
-ghost use Rattle.spl_page.specs.Lent.{message_lent};
-ghost use Rattle.spl_page.specs.LeafPage.{IsEntry, IsFound, kind_of, leaf_entry_length, leaf_entry_text, leaf_keys, leaf_length, leaf_row_of, leaf_rows_of, value_of};
+ghost use Rattle.spl_page.specs.LeafPage.{leaf_entry_length, leaf_keys, leaf_length, leaf_row_of, leaf_rows_of};
+ghost use Rattle.spl_page.specs.Sound.{AreStarts, entries_of};
+ghost use Rattle.spl_page.specs.Tables.{leaf_size};
+ghost use Rattle.spl_page.specs.Writer.{leaf_rows_written};
 
-use crate::any_page::fault_of;
-use crate::frame::{HEAD_BYTES, LEAF_KIND, entry_count, write_head};
-use crate::leaf_slot::{ENTRY_HEAD, LeafSlot};
-use crate::{LeafEntry, LentMessage, PageFault};
-use byteorder::{BigEndian, ByteOrder};
+use crate::frame::{HEAD_BYTES, entry_count};
+use crate::leaf_slot::LeafSlot;
+use crate::leaf_writer::{entry_length, push_entry};
+use crate::scan::{ENTRY_LIMIT, form_fault};
+use crate::sound_page::bytes_from;
+use crate::writer::Writer;
+use crate::{LeafEntry, LeafForm, LentMessage, PageFault};
 use spl_message::{Key, Message, NoMemory};
 use spl_port::{At, Damaged, PAGE_BYTES, PageBytes};
 use std::alloc::Global;
@@ -54,7 +58,7 @@ impl LeafPage {
         ensures err { OnErr result (self.new ≡ self.old) }
     {
         let key = *key;
-        let len = entry_length(&key, message);
+        let len = entry_length(&key, LentMessage::of(message));
         let message = message.copy()?;
         self.entries.push(LeafEntry { key, message })?;
         self.bytes = self.bytes.saturating_add(len);
@@ -73,7 +77,7 @@ impl LeafPage {
     pub fn fits(&self, key: &Key, message: &Message) -> bool
         ensures { IsTrue result ↔ (leaf_length self.now + leaf_entry_length key.now message.now ≤ 4096) }
     {
-        self.bytes <= PAGE_BYTES - entry_length(key, message)
+        self.bytes <= PAGE_BYTES - entry_length(key, LentMessage::of(message))
     }
 
     /// The page's bytes for a place.
@@ -83,14 +87,9 @@ impl LeafPage {
         requires entries { 0 < length self.now }
         ensures { IfOk result (λ page. IsLeafPage at page (leaf_rows_of self.now)) }
     {
-        let entries = self.entries.as_slice();
-        let head = write_head(LEAF_KIND, entries.len() as u16, at);
-        let alloc = *self.entries.allocator();
-        let mut out = Vec::with_capacity(alloc, PAGE_BYTES)?;
-        out.extend_from_slice(&head)?;
-        write_entries(&mut out, entries)?;
-        out.resize(PAGE_BYTES, 0)?;
-        Ok(PageBytes::from_vec(out))
+        let mut page = Writer::new(*self.entries.allocator());
+        write_entries(&mut page, self.entries.as_slice())?;
+        page.finish(at)
     }
 
     /// The page that the bytes are, if they are a leaf page for the place.
@@ -99,142 +98,71 @@ impl LeafPage {
         ensures ok { IfOk result (λ page. IsLeafPage at bytes.now (leaf_rows_of page)) }
         ensures err { IfErr result (IsFaultOf at bytes.now) }
     {
-        if let Some(why) = fault_of(bytes, at) {
+        let mut starts = [0; ENTRY_LIMIT];
+        if let Some(why) = form_fault::<LeafForm>(bytes, at, &mut starts) {
             return Err(PageFault::Damaged(Damaged { at, why }));
         }
-        let found = match read_entries(alloc, bytes)? {
-            Some(found) => found,
-            None => unreachable!(),
-        };
+        let count = entry_count(bytes) as usize;
+        let Found { entries, end } = read_entries(alloc, bytes, &starts[..count])?;
         Ok(LeafPage {
-            entries: found.entries,
-            bytes: found.end,
+            entries,
+            bytes: end,
         })
     }
 }
 
-/// The entries that stand in a page.
-#[derive(Debug, Drop)]
+/// Puts the entries into a page with none.
+fn write_entries(page: &mut Writer<LeafForm>, entries: &[LeafEntry]) -> Result<(), NoMemory>
+    requires empty { leaf_rows_written page.old ≡ [] }
+    requires rising { AreRising (map (λ row. row.key) (leaf_rows_of entries.now)) }
+    requires fits { 16 + sum_by leaf_size (leaf_rows_of entries.now) ≤ 4096 }
+    ensures { OnOk result (leaf_rows_written page.new ≡ leaf_rows_of entries.now) }
+{
+    for entry in entries {
+        push_entry(page, &entry.key, LentMessage::of(&entry.message))?;
+    }
+    Ok(())
+}
+
+/// The entries of a page.
+#[derive(Drop)]
 struct Found {
     entries: Vec<LeafEntry>,
     /// The place behind the last entry.
     end: usize,
 }
 
-/// The entries that stand in a page, if they are there.
-fn read_entries(alloc: Global, bytes: &[u8]) -> Result<Option<Found>, NoMemory>
-    requires { length bytes.now ≡ 4096 }
-    ensures { IfOk result (λ answer. MatchOption answer (leaf_rows bytes.now ≡ None) (λ found. IsFound bytes.now found.entries.items found.end)) }
+/// The entries of a page, which start at these places.
+fn read_entries(alloc: Global, bytes: &[u8; PAGE_BYTES], starts: &[u16]) -> Result<Found, NoMemory>
+    requires places { AreStarts leaf_row leaf_row_length bytes.now starts.now }
+    requires few { length starts.now ≤ 816 }
+    ensures ok { IfOk result (λ found. entries_of leaf_row leaf_row_length bytes.now ≡ leaf_rows_of found.entries.items) }
+    ensures end { IfOk result (λ found. found.end ≡ leaf_length found.entries.items) }
+    ensures short { IfOk result (λ found. found.end ≤ 16 + 580 * 816) }
 {
     let mut entries = Vec::new(alloc);
     let mut end = HEAD_BYTES;
-    let count = entry_count(bytes);
-    for _ in 0..count {
-        let Some(entry) = read_entry(alloc, &bytes[end..])? else {
-            return Ok(None);
-        };
-        let LeafEntry { key, message } = entry;
-        end += entry_length(&key, &message);
-        entries.push(LeafEntry { key, message })?;
+    for start in starts {
+        let entry = read_entry(alloc, bytes_from(bytes, *start))?;
+        end += entry_length(&entry.key, LentMessage::of(&entry.message));
+        entries.push(entry)?;
     }
-    Ok(Some(Found { entries, end }))
+    Ok(Found { entries, end })
 }
 
-/// The entry at the front of these bytes, if there is one.
-fn read_entry(alloc: Global, bytes: &[u8]) -> Result<Option<LeafEntry>, NoMemory>
-    ensures value { IfOk result (λ answer. option_map leaf_row_of answer ≡ leaf_row bytes.now) }
-    ensures length { IfOk result (λ answer. IfSome answer (λ entry. leaf_row_length bytes.now ≡ leaf_entry_length entry.key entry.message)) }
-    ensures within { IfOk result (λ answer. IfSome answer (λ entry. leaf_entry_length entry.key entry.message ≤ length bytes.now)) }
+/// The entry at the front of these bytes.
+fn read_entry(alloc: Global, bytes: &[u8]) -> Result<LeafEntry, NoMemory>
+    requires { IsSome (leaf_row bytes.now) }
+    ensures { IfOk result (λ entry. leaf_row bytes.now ≡ Some (leaf_row_of entry)) }
 {
     let slot = match LeafSlot::read(bytes) {
         Some(slot) => slot,
-        None => return Ok(None),
+        None => unreachable!(),
     };
     let key = match Key::read(slot.key) {
         Ok(key) => key,
         Err(_) => unreachable!(),
     };
     let message = slot.message().copy(alloc)?;
-    Ok(Some(LeafEntry { key, message }))
-}
-
-/// How many bytes an entry with this key and this message takes.
-pub(crate) fn entry_length(key: &Key, message: &Message) -> usize
-    ensures value { result ≡ leaf_entry_length key.now message.now }
-    ensures short { result ≤ 580 }
-{
-    lent_length(key, LentMessage::of(message))
-}
-
-/// How many bytes an entry with this key and this message takes.
-pub(crate) fn lent_length(key: &Key, message: LentMessage<'_>) -> usize
-    ensures value { result ≡ leaf_entry_length key.now (message_lent message.entry) }
-    ensures short { result ≤ 580 }
-{
-    ENTRY_HEAD + key.bytes().len() + value_bytes(message).len()
-}
-
-/// The value that stands in a message.
-fn value_bytes(message: LentMessage<'_>) -> &[u8]
-    ensures value { result.now ≡ value_of (message_lent message.entry) }
-    ensures short { length result.now ≤ 512 }
-{
-    match message {
-        LentMessage::Insert(value) => value.bytes(),
-        LentMessage::Delete => &[],
-        LentMessage::Update(operand) => operand.bytes(),
-    }
-}
-
-/// The number of a message's kind.
-fn kind_number(message: LentMessage<'_>) -> u8
-    ensures { result ≡ kind_of (message_lent message.entry) }
-{
-    match message {
-        LentMessage::Insert(_) => 0,
-        LentMessage::Delete => 1,
-        LentMessage::Update(_) => 2,
-    }
-}
-
-/// Puts the bytes of the entries at the end.
-fn write_entries(out: &mut Vec<u8>, entries: &[LeafEntry]) -> Result<(), NoMemory>
-    ensures ok { OnOk result (out.new.items ≡ out.old.items ++ flat_map leaf_entry_text entries.now) }
-    ensures entries { OnOk result (All IsEntry entries.now) }
-{
-    for entry in entries {
-        write_entry(out, &entry.key, &entry.message)?;
-    }
-    Ok(())
-}
-
-/// Puts the bytes of an entry at the end.
-fn write_entry(out: &mut Vec<u8>, key: &Key, message: &Message) -> Result<(), NoMemory>
-    ensures ok { OnOk result (out.new.items ≡ out.old.items ++ leaf_entry_text (record { key = key.now; message = message.now })) }
-    ensures is_entry { IsEntry (record { key = key.now; message = message.now }) }
-{
-    write_lent(out, key, LentMessage::of(message))
-}
-
-/// Puts the bytes of an entry at the end.
-pub(crate) fn write_lent(
-    out: &mut Vec<u8>,
-    key: &Key,
-    message: LentMessage<'_>,
-) -> Result<(), NoMemory>
-    ensures ok { OnOk result (out.new.items ≡ out.old.items ++ leaf_entry_text (record { key = key.now; message = message_lent message.entry })) }
-    ensures err { OnErr result (out.new.items ≡ out.old.items) }
-    ensures is_entry { IsEntry (record { key = key.now; message = message_lent message.entry }) }
-{
-    let key = key.bytes();
-    let value = value_bytes(message);
-    let mut head = [0; ENTRY_HEAD];
-    head[0] = key.len() as u8;
-    head[1] = kind_number(message);
-    BigEndian::write_u16(&mut head[2..], value.len() as u16);
-    out.reserve(ENTRY_HEAD + key.len() + value.len())?;
-    out.extend_from_slice(&head)?;
-    out.extend_from_slice(key)?;
-    out.extend_from_slice(value)?;
-    Ok(())
+    Ok(LeafEntry { key, message })
 }

@@ -1,6 +1,6 @@
 ghost use Rattle.std.specs.Prelude.{◌≡◌, ◌<◌, ◌≤◌, true, length};
 ghost use Rattle.spl_port.specs.Page.{number_at};
-ghost use Rattle.spl_page.specs.LeafPage.{is_message};
+ghost use Rattle.spl_page.specs.LeafPage.{is_message, leaf_head};
 
 use crate::{LentMessage, LentValue};
 use byteorder::{BigEndian, ByteOrder};
@@ -67,6 +67,19 @@ impl<'a> LeafSlot<'a> {
             _ => LentMessage::Update(LentValue::of(self.value)),
         }
     }
+}
+
+/// The bytes of an entry before its key.
+pub(crate) fn entry_head(key: &[u8], kind: u8, value: &[u8]) -> [u8; ENTRY_HEAD]
+    requires key { length key.now ≤ 64 }
+    requires value { length value.now ≤ 512 }
+    ensures { result ≡ leaf_head (length key.now) kind (length value.now) }
+{
+    let mut head = [0; ENTRY_HEAD];
+    head[0] = key.len() as u8;
+    head[1] = kind;
+    BigEndian::write_u16(&mut head[2..], value.len() as u16);
+    head
 }
 
 /// How many bytes the value of the entry at the front has.

@@ -1,17 +1,18 @@
-ghost use Rattle.std.specs.Prelude.{◌≡◌, ◌+◌, ◌<◌, ◌≤◌, ◌↔◌, ◌++◌, [], ◌∷◌, true, length, None, IsTrue, IfOk, OnOk, OnErr};
+ghost use Rattle.std.specs.Prelude.{◌≡◌, ◌+◌, ◌<◌, ◌≤◌, ◌↔◌, ◌++◌, [], ◌∷◌, true, length, map, sum_by, None, IsTrue, IfOk, OnOk, OnErr};
+ghost use Rattle.spl_message.specs.Key.{AreRising};
 ghost use Rattle.spl_message.specs.Entries.{AreEntries};
 ghost use Rattle.spl_port.specs.Page.{leaf_fault};
 ghost use Rattle.spl_port.specs.Seal.{begins_leaf};
-ghost use Rattle.spl_page.specs.LeafPage.{leaf_entry_length};
+ghost use Rattle.spl_page.specs.LeafPage.{kind_of, leaf_entry_length, leaf_row_of, value_of};
 ghost use Rattle.spl_page.specs.Lent.{message_lent};
-ghost use Rattle.spl_page.specs.Tables.{leaf_table, table_length};
+ghost use Rattle.spl_page.specs.Tables.{leaf_size, leaf_table, table_length};
+ghost use Rattle.spl_page.specs.Writer.{leaf_rows_written};
 
-use crate::LentMessage;
-use crate::frame::{HEAD_BYTES, LEAF_KIND, write_head};
-use crate::leaf_page::{lent_length, write_lent};
-use crate::page_text::{begin_page, finish_page};
+use crate::leaf_slot::{ENTRY_HEAD, entry_head};
+use crate::writer::Writer;
+use crate::{LeafForm, LentMessage};
 use spl_message::{Key, Message, NoMemory};
-use spl_port::{At, PAGE_BYTES, PageBytes};
+use spl_port::{At, PageBytes};
 use std::alloc::Global;
 use std::marker::Model;
 
@@ -20,22 +21,16 @@ use std::marker::Model;
 /// It has memory for one page from the first entry on, and gives that memory away as the page.
 #[derive(Debug, Drop)]
 pub struct LeafWriter {
-    /// Room for the first 16 bytes, and the entries; or nothing yet.
-    bytes: Vec<u8>,
-    /// How many entries there are.
-    count: u16,
+    page: Writer<LeafForm>,
 }
 
 impl Model for LeafWriter {
     ghost use Rattle.spl_message.specs.Entries.{Entries};
+    ghost use Rattle.spl_page.specs.Writer.{written_table};
 
     ghost Value = { Entries };
 
-    ghost use Rattle.spl_page.specs.LeafWriter.{IsWritten, written_table};
-
-    ghost view = { λ w. written_table w.count w.bytes.items };
-
-    ghost invariant = { λ w. IsWritten (written_table w.count w.bytes.items) w.count w.bytes.items };
+    ghost view = { λ w. written_table w.page };
 }
 
 impl LeafWriter {
@@ -44,8 +39,7 @@ impl LeafWriter {
         ensures { result ≡ [] }
     {
         LeafWriter {
-            bytes: Vec::new(alloc),
-            count: 0,
+            page: Writer::new(alloc),
         }
     }
 
@@ -54,7 +48,7 @@ impl LeafWriter {
         ensures value { result ≡ length self.now }
         ensures most { result ≤ 816 }
     {
-        self.count as usize
+        self.page.len()
     }
 
     /// Whether the page still has room for this key with this message. An empty page has.
@@ -70,7 +64,7 @@ impl LeafWriter {
         ensures value { IsTrue result ↔ (table_length self.now + leaf_entry_length key.now (message_lent message.entry) ≤ 4096) }
         ensures short { leaf_entry_length key.now (message_lent message.entry) ≤ 580 }
     {
-        self.bytes.len().max(HEAD_BYTES) <= PAGE_BYTES - lent_length(key, message)
+        self.page.fits(entry_length(key, message))
     }
 
     /// Puts a key with its message at the end.
@@ -90,10 +84,7 @@ impl LeafWriter {
         ensures ok { OnOk result (self.new ≡ self.old ++ (key.now, message_lent message.entry) ∷ []) }
         ensures err { OnErr result (self.new ≡ self.old) }
     {
-        begin_page(&mut self.bytes)?;
-        write_lent(&mut self.bytes, key, message)?;
-        self.count += 1;
-        Ok(())
+        push_entry(&mut self.page, key, message)
     }
 
     /// The page's bytes for a place. The writer is then empty, and takes no memory.
@@ -107,9 +98,57 @@ impl LeafWriter {
         ensures ok { OnOk result (self.new ≡ []) }
         ensures err { OnErr result (self.new ≡ self.old) }
     {
-        let head = write_head(LEAF_KIND, self.count, at);
-        let page = finish_page(&mut self.bytes, &head)?;
-        self.count = 0;
-        Ok(page)
+        self.page.finish(at)
+    }
+}
+
+/// Puts a key with its message at the end of a page.
+pub(crate) fn push_entry(
+    page: &mut Writer<LeafForm>,
+    key: &Key,
+    message: LentMessage<'_>,
+) -> Result<(), NoMemory>
+    requires rising { AreRising (map (λ row. row.key) (leaf_rows_written page.old
+        ++ leaf_row_of (record { key = key.now; message = message_lent message }) ∷ [])) }
+    requires fits { 16 + sum_by leaf_size (leaf_rows_written page.old)
+        + leaf_entry_length key.now (message_lent message) ≤ 4096 }
+    ensures ok { OnOk result (leaf_rows_written page.new ≡ leaf_rows_written page.old
+        ++ leaf_row_of (record { key = key.now; message = message_lent message.entry }) ∷ []) }
+    ensures err { OnErr result (page.new ≡ page.old) }
+{
+    let key = key.bytes();
+    let value = value_bytes(message);
+    let head = entry_head(key, kind_number(message), value);
+    page.push(&head, key, value)
+}
+
+/// How many bytes an entry with this key and this message takes.
+pub(crate) fn entry_length(key: &Key, message: LentMessage<'_>) -> usize
+    ensures value { result ≡ leaf_entry_length key.now (message_lent message.entry) }
+    ensures short { result ≤ 580 }
+{
+    ENTRY_HEAD + key.bytes().len() + value_bytes(message).len()
+}
+
+/// The value that stands in a message.
+fn value_bytes(message: LentMessage<'_>) -> &[u8]
+    ensures value { result.now ≡ value_of (message_lent message.entry) }
+    ensures short { length result.now ≤ 512 }
+{
+    match message {
+        LentMessage::Insert(value) => value.bytes(),
+        LentMessage::Delete => &[],
+        LentMessage::Update(operand) => operand.bytes(),
+    }
+}
+
+/// The number of a message's kind.
+fn kind_number(message: LentMessage<'_>) -> u8
+    ensures { result ≡ kind_of (message_lent message.entry) }
+{
+    match message {
+        LentMessage::Insert(_) => 0,
+        LentMessage::Delete => 1,
+        LentMessage::Update(_) => 2,
     }
 }

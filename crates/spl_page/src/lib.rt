@@ -25,6 +25,7 @@ mod slot;
 mod sound_index;
 mod sound_leaf;
 mod sound_page;
+mod writer;
 
 pub use any_page::{AnyPage, page_ok};
 pub use fault::PageFault;

@@ -18,6 +18,34 @@ pub(crate) fn begin_page(out: &mut Vec<u8>) -> Result<(), NoMemory>
     Ok(())
 }
 
+/// Puts an entry's bytes at the end, behind room for the first bytes of the page.
+pub(crate) fn append_entry(
+    out: &mut Vec<u8>,
+    head: &[u8],
+    key: &[u8],
+    value: &[u8],
+) -> Result<(), NoMemory>
+    requires { length (head.now ++ (key.now ++ value.now)) ≤ 4096 }
+    ensures ok { OnOk result (drop 16 out.new.items ≡ drop 16 out.old.items ++ (head.now ++ (key.now ++ value.now))) }
+    ensures err { OnErr result (drop 16 out.new.items ≡ drop 16 out.old.items) }
+{
+    begin_page(out)?;
+    append(out, head, key, value)
+}
+
+/// Puts these bytes at the end, one after the other.
+fn append(out: &mut Vec<u8>, head: &[u8], key: &[u8], value: &[u8]) -> Result<(), NoMemory>
+    requires { length (head.now ++ (key.now ++ value.now)) ≤ 4096 }
+    ensures ok { OnOk result (out.new.items ≡ out.old.items ++ (head.now ++ (key.now ++ value.now))) }
+    ensures err { OnErr result (out.new.items ≡ out.old.items) }
+{
+    out.reserve(head.len() + key.len() + value.len())?;
+    out.extend_from_slice(head)?;
+    out.extend_from_slice(key)?;
+    out.extend_from_slice(value)?;
+    Ok(())
+}
+
 /// The page of these first bytes and the entries, filled up with zeros. It is made of the bytes themselves.
 pub(crate) fn finish_page(out: &mut Vec<u8>, head: &[u8; HEAD_BYTES]) -> Result<PageBytes, NoMemory>
     requires begun { 16 ≤ length out.old.items }

@@ -1,8 +1,7 @@
-ghost use Rattle.std.specs.Prelude.{◌≤◌, length};
-
+use super::tests::page;
 use super::*;
 use spl_message::{Key, Message, Value};
-use spl_port::{At, Damaged, PageBytes, Why};
+use spl_port::{At, PageBytes};
 use std::alloc::Global;
 use std::test::Fail;
 
@@ -29,17 +28,6 @@ const INDEX: At = At {
 /// The index page is over the pages 1 from `b` on, 3 from `d` on, and 5 from `f` on.
 const CHILDREN: &[u8] =
     b"I\x01\x00\x03\x00\x00\x00\x06\x00\x00\x00\x00\x00\x00\x00\x07\x00\x00\x00\x01\x01b\x00\x00\x00\x03\x01d\x00\x00\x00\x05\x01f";
-
-/// The text, with zeros behind it.
-fn page(text: &[u8]) -> [u8; 4096]
-    requires { length text.now ≤ 4096 }
-{
-    let mut bytes = [0; 4096];
-    let len = text.len();
-    let front = &mut bytes[..len];
-    front.copy_from_slice(text);
-    bytes
-}
 
 /// What is lent, in memory of its own.
 fn copied(alloc: Global, found: Option<LentMessage<'_>>) -> Result<Option<Message>, Fail> {
@@ -83,7 +71,9 @@ fn a_message_is_found_at_its_key_alone(rt: HostRuntime) -> Result<(), Fail> {
 fn a_child_has_the_keys_from_its_first_key_on(rt: HostRuntime) -> Result<(), Fail> {
     let alloc = rt.alloc();
     let bytes = PageBytes::copy(alloc, &page(CHILDREN))?;
-    let AnyPage::Index(page) = AnyPage::check(alloc, bytes, INDEX)? else {
+    let sound = AnyPage::check(alloc, bytes, INDEX)?;
+    assert!(rt; sound.at() == INDEX && *sound.bytes() == page(CHILDREN));
+    let AnyPage::Index(page) = sound else {
         return Err("a leaf page".into());
     };
     let cases = [
@@ -97,62 +87,6 @@ fn a_child_has_the_keys_from_its_first_key_on(rt: HostRuntime) -> Result<(), Fai
     ];
     for (byte, child) in cases {
         assert_eq!(rt; page.child(&Key::read(&[byte])?), child);
-    }
-    Ok(())
-}
-
-/// Why the text with one byte changed is no page for the place.
-fn why(alloc: Global, text: &[u8], at: At, place: u8, byte: u8) -> Result<Option<PageFault>, Fail>
-    requires { length text.now ≤ 4096 }
-{
-    let mut bytes = page(text);
-    bytes[place as usize] = byte;
-    if page_ok(&bytes, at) {
-        return Err("a page that is damaged is sound".into());
-    }
-    let bytes = PageBytes::copy(alloc, &bytes)?;
-    Ok(AnyPage::check(alloc, bytes, at).err())
-}
-
-#[test]
-fn a_damaged_page_is_refused_for_its_first_fault(rt: HostRuntime) -> Result<(), Fail> {
-    let leaf = [
-        (0, b'I', Why::Kind),
-        (15, 8, Why::Number),
-        (3, 0, Why::Count),
-        (28, 3, Why::Entry),
-        (31, b'd', Why::Order),
-        (33, 1, Why::Rest),
-    ];
-    assert!(rt; page_ok(&page(MESSAGES), LEAF));
-    for (place, byte, reason) in leaf {
-        let damaged = Damaged {
-            at: LEAF,
-            why: reason,
-        };
-        assert_eq!(rt;
-            why(rt.alloc(), MESSAGES, LEAF, place, byte)?,
-            Some(PageFault::Damaged(damaged))
-        );
-    }
-    let index = [
-        (0, b'L', Why::Kind),
-        (7, 7, Why::Number),
-        (3, 0, Why::Count),
-        (31, 6, Why::Entry),
-        (33, b'd', Why::Order),
-        (34, 1, Why::Rest),
-    ];
-    assert!(rt; page_ok(&page(CHILDREN), INDEX));
-    for (place, byte, reason) in index {
-        let damaged = Damaged {
-            at: INDEX,
-            why: reason,
-        };
-        assert_eq!(rt;
-            why(rt.alloc(), CHILDREN, INDEX, place, byte)?,
-            Some(PageFault::Damaged(damaged))
-        );
     }
     Ok(())
 }

@@ -124,7 +124,7 @@ impl<F: Form> SoundPage<F> {
 }
 
 /// The bytes from a place on.
-fn bytes_from(bytes: &[u8; PAGE_BYTES], start: u16) -> &[u8]
+pub(crate) fn bytes_from(bytes: &[u8; PAGE_BYTES], start: u16) -> &[u8]
     requires { start < 4096 }
     ensures { result.now ≡ drop start bytes.now }
 {

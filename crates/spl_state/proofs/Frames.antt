@@ -116,9 +116,9 @@ module _ (old : Whole) (sound : IsSound old) where
       bounds = sound.bounds;
     }
 
--- what an actor sees does not move where the trunk, the branches, the tables, the extents, its own state and its grips stay
-still : (rule : Rule) (tells : Bool) (old new : Whole) (number : ℕ) → new.nodes ≡ old.nodes → new.refs ≡ old.refs → new.tables ≡ old.tables → new.owners ≡ old.owners → actor_in new.actors number ≡ actor_in old.actors number → ((node : ℕ) → grip_of new.grips number node ≡ grip_of old.grips number node) → KeepsSight rule tells old new number
-still rule tells old new number nodes refs tables owners actor grips =
+-- what an actor sees does not move where the trunk, the branches, the extents, its own state, its grips and what it works on stay
+pub still_with : (rule : Rule) (tells : Bool) (old new : Whole) (number : ℕ) → new.nodes ≡ old.nodes → new.refs ≡ old.refs → ((job : Job) → (actor_in old.actors number).job ≡ Some job → SeesSource old new job) → new.owners ≡ old.owners → actor_in new.actors number ≡ actor_in old.actors number → ((node : ℕ) → grip_of new.grips number node ≡ grip_of old.grips number node) → KeepsSight rule tells old new number
+still_with rule tells old new number nodes refs source owners actor grips =
     let sees : (n : List NodeData) (r : Published BranchData) → n ≡ old.nodes → r ≡ old.refs → (descent : Descent) → SeesNode rule tells old (record new { nodes = n; refs = r }) descent = λ n r is_n is_r descent. rw (is_n, is_r) (record { height = refl; pivots = refl; tables = refl; rest = λ told key within. refl }) in
     let keeps : (n : List NodeData) (r : Published BranchData) → n ≡ old.nodes → r ≡ old.refs → (node : ℕ) → KeepsNode old (record new { nodes = n; refs = r }) node = λ n r is_n is_r node. rw (is_n, is_r) (record { pivots = refl; bundles = refl; split = refl }) in
     record {
@@ -126,12 +126,23 @@ still rule tells old new number nodes refs tables owners actor grips =
       grips = grips;
       extents = ap (λ (o : _). granted_to o number) owners;
       descent = λ descent is. sees new.nodes new.refs nodes refs descent;
-      job = λ job is. same_source old new tables refs job;
+      job = source;
       written = λ node writes. keeps new.nodes new.refs nodes refs node;
     }
 
+pub still : (rule : Rule) (tells : Bool) (old new : Whole) (number : ℕ) → new.nodes ≡ old.nodes → new.refs ≡ old.refs → new.tables ≡ old.tables → new.owners ≡ old.owners → actor_in new.actors number ≡ actor_in old.actors number → ((node : ℕ) → grip_of new.grips number node ≡ grip_of old.grips number node) → KeepsSight rule tells old new number
+still rule tells old new number nodes refs tables owners actor grips = still_with rule tells old new number nodes refs (λ job is. same_source old new tables refs job) owners actor grips
+
 module _ (rule : Rule) (tells : Bool) (old : Whole) (drafts : tells ≡ true → AreDrafts rule old) where
-  -- a refused step leaves all that anyone relies on
+  -- a state that stays leaves all that anyone relies on
+  pub unchanged_framed : (actor : ℕ) → IsFramed rule tells old old actor
+  unchanged_framed actor = record {
+    drafts = drafts;
+    means = λ told key. refl;
+    others = λ other below apart. still rule tells old old other refl refl refl refl refl (λ node. refl);
+  }
+
+  -- and so does a step more
   pub refused_framed : (actor : ℕ) → IsFramed rule tells old (refused old) actor
   refused_framed actor = record {
     drafts = drafts;

@@ -1,3 +1,4 @@
 pub mod Empty
+pub mod LettingGo
 pub mod Views
 pub mod Frames

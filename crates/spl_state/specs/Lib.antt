@@ -1,6 +1,7 @@
 pub mod Actor
 pub mod Whole
 pub mod Extents
+pub mod Names
 pub mod Runs
 pub mod Actors
 pub mod Bounds

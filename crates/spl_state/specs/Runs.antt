@@ -1,10 +1,10 @@
 -- The runs of bundles that are being merged, and the marks that their bundles carry.
-use Rattle.std.specs.Prelude.{◌≡◌, ℕ, ◌+◌, ◌<◌, ◌≤◌, ◌-◌, max, true, List, take, drop, length, Option, Some, None, All, ◌⊎◌}
+use Rattle.std.specs.Prelude.{◌≡◌, ℕ, ◌+◌, ◌<◌, ◌≤◌, true, List, length, Option, Some, None}
 use Rattle.spl_base.specs.declared.TheConstants.{ACTORS}
 use Rattle.spl_message.specs.Span.{InSpan}
-use Rattle.spl_bundle.specs.Numbered.{Numbered, bundle_at, next_of, joined}
-use Rattle.spl_node.specs.declared.pivot.Pivot.{Pivot}
+use Rattle.spl_bundle.specs.Numbered.{Numbered, bundle_at, next_of}
 use Rattle.spl_node.specs.Node.{NodeData}
+use Rattle.spl_node.specs.Parts.{branches_from, IsUncut}
 use Rattle.spl_trunk.specs.Trunk.{node_at}
 use Rattle.spl_state.specs.declared.job.Job.{Job}
 use Rattle.spl_state.specs.declared.job.Job.TheVariants.{Pack, Merge}
@@ -16,21 +16,13 @@ use Rattle.spl_state.specs.Actor.{actor_in}
 abbrev pub Stands : Numbered → ℕ → Type 0
 Stands queue number = (queue.first ≤ number) × (number < next_of queue)
 
--- the branches of the bundles from `first` up to `last` that stand, oldest first
-abbrev pub joined_run : Numbered → ℕ → ℕ → List ℕ
-joined_run queue first last = joined (take (last + 1 - max first queue.first) (drop (first - queue.first) queue.bundles))
-
--- no pivot's mark parts the bundles of the run that stand
-abbrev pub IsWholeFor : Numbered → ℕ → ℕ → Pivot → Type 0
-IsWholeFor queue first last pivot = (pivot.mark ≤ max first queue.first) ⊎ (last < pivot.mark)
-
 -- What is left of a run in a node that holds a bundle with its actor's mark: those of its bundles that stand carry the
 -- mark and have the run's inputs, each pivot has all of them live or none, and the node's keys are among the run's.
 pub record HoldsRun (node : NodeData) (actor : ℕ) (run : Run) : Type 0 where
   pub stands : Stands node.lists run.last
   pub marks : (number : ℕ) → run.first ≤ number → number ≤ run.last → node.lists.first ≤ number → (bundle_at node.lists number).owner ≡ Some actor
-  pub inputs : joined_run node.lists run.first run.last ≡ run.inputs
-  pub whole : All (IsWholeFor node.lists run.first run.last) node.pivots
+  pub inputs : branches_from node.lists run.first (run.last + 1) ≡ run.inputs
+  pub whole : IsUncut node run.first run.last
   pub within : (key : List ℕ) → InSpan node.range key → InSpan run.span key
   -- at the bottom the node is a leaf, and no older bundle stands
   pub leaf : run.bottom ≡ true → node.height ≡ 0

@@ -10,7 +10,8 @@ pub record FrozenData : Type 0 where
   pub table : Table
   pub picked : Option ℕ
 
--- the memtable that takes writes, the frozen ones with the oldest first, and the number that the next frozen one gets
+-- the memtable that takes writes, the frozen ones with the oldest first, and the number that the next
+-- frozen one gets
 pub record MemtableData : Type 0 where
   pub active : Table
   pub frozen : List FrozenData
@@ -48,7 +49,8 @@ first_unpicked frozen = position (λ one. is_none one.picked) frozen
 
 -- the frozen memtable at a position
 abbrev pub frozen_at : List FrozenData → ℕ → FrozenData
-frozen_at frozen position = slice_index_or frozen position (record { number = 0; table = as_table []; picked = None })
+frozen_at frozen position =
+    slice_index_or frozen position (record { number = 0; table = as_table []; picked = None })
 
 -- picked by the actor, and else as it was
 abbrev pub taken_by : ℕ → FrozenData → FrozenData
@@ -56,7 +58,8 @@ taken_by actor frozen = record frozen { picked = Some actor }
 
 -- the frozen memtable at the position is picked by the actor, and all else is as it was
 abbrev pub picked_by : MemtableData → ℕ → ℕ → MemtableData
-picked_by tables position actor = record tables { frozen = slice_set tables.frozen position (taken_by actor (frozen_at tables.frozen position)) }
+picked_by tables position actor =
+    record tables { frozen = slice_set tables.frozen position (taken_by actor (frozen_at tables.frozen position)) }
 
 -- nobody, where it was this actor
 abbrev pub other_than : ℕ → Option ℕ → Option ℕ

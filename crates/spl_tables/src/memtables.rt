@@ -21,9 +21,11 @@ const _: () = prove!(FROZEN_TABLES == 4);
 
 const _: () = prove!(MEMTABLE_KEYS == 1024);
 
-/// The memtables of a store. In a clause it is plain data: the tables, and the numbers and picks of the frozen ones.
+/// The memtables of a store. In a clause it is plain data: the tables, and the numbers and picks of
+/// the frozen ones.
 ///
-/// Only `new`, `put`, `rotate` and `slices` take memory.
+/// Only `new`, `put`, `rotate` and `slices` take memory. `pick` fails only where a pointer has no room
+/// for another owner in its count.
 #[derive(Debug, Drop)]
 pub struct Memtables {
     active: Memtable,
@@ -86,7 +88,8 @@ impl Memtables {
         requires { L.ready law.now }
         ensures full { (result ≡ Ok Put.Full) ↔ IsFull self.old.active key.now }
         ensures unchanged { result ≡ Ok Put.Full → self.new ≡ self.old }
-        ensures done { result ≡ Ok Put.Done → Puts (L.rule law.now) self.old.active self.new.active key.now message }
+        ensures done { result ≡ Ok Put.Done
+            → Puts (L.rule law.now) self.old.active self.new.active key.now message }
         ensures err { OnErr result (self.new ≡ self.old) }
         ensures frozen { self.new.frozen ≡ self.old.frozen }
         ensures next { self.new.next ≡ self.old.next }
@@ -226,7 +229,8 @@ fn freeze(alloc: Global, active: &mut Memtable) -> Result<Arc<Frozen>, NoMemory>
 
 /// The parts of the span, with room for one more.
 fn frozen_slices(alloc: Global, tables: &[FrozenTable], span: &Span) -> Result<Vec<Slice>, NoMemory>
-    ensures parts { IfOk result (λ slices. slices.items ≡ map (λ frozen. part_of span.now frozen.table) tables.now) }
+    ensures parts { IfOk result (λ slices.
+        slices.items ≡ map (λ frozen. part_of span.now frozen.table) tables.now) }
     ensures room { IfOk result (λ slices. vec_len slices < vec_capacity slices) }
 {
     let mut slices = Vec::with_capacity(alloc, tables.len() + 1)?;

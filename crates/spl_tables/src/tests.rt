@@ -65,7 +65,6 @@ fn a_released_memtable_is_picked_again(rt: HostRuntime) -> Result<(), Fail> {
 #[test]
 fn the_oldest_goes_and_its_slices_stay(rt: HostRuntime) -> Result<(), Fail> {
     let mut memtables = rotated(rt.alloc())?;
-    assert_eq!(rt; memtables.rotate()?, Rotation::NotFull);
     let slices = memtables.slices(rt.alloc(), &EVERYTHING)?;
     if memtables.frozen() > 0 {
         memtables.remove_oldest();
@@ -77,5 +76,13 @@ fn the_oldest_goes_and_its_slices_stay(rt: HostRuntime) -> Result<(), Fail> {
     let key = Key::read(&[0, 7])?;
     let found = slices.as_slice().first().and_then(|slice| slice.get(&key));
     assert_eq!(rt; found, Some(&Message::Delete));
+    Ok(())
+}
+
+#[test]
+fn a_memtable_with_room_is_not_frozen(rt: HostRuntime) -> Result<(), Fail> {
+    let mut memtables = Memtables::new(rt.alloc())?;
+    assert_eq!(rt; memtables.rotate()?, Rotation::NotFull);
+    assert_eq!(rt; memtables.frozen(), 0);
     Ok(())
 }

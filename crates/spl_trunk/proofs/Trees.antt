@@ -1,6 +1,6 @@
 -- What leaves the meaning of a node alone.
-use Rattle.std.proofs.Common.{◌≡◌, ◌≢◌, ℕ, zero, suc, ◌+◌, ◌<◌, ◌≤◌, Bool, true, false, nat_lt, if◌then◌else◌, List, [], ◌∷◌, ◌++◌, Option, Some, None, flat_map, map, length, get_or, refl, sym, ap, subst, ◌∙◌, inl, inr, arith}
-use Rattle.std.specs.Prelude.{IsSome, option_to_list, All, ◌↔◌}
+use Rattle.std.proofs.Common.{◌≡◌, ◌≢◌, ℕ, zero, suc, ◌<◌, ◌≤◌, Bool, true, false, nat_lt, if◌then◌else◌, List, [], ◌∷◌, Option, Some, None, flat_map, length, refl, sym, ap, subst, ◌∙◌, inl, inr, arith}
+use Rattle.std.specs.Prelude.{IsSome, option_to_list, ◌↔◌}
 use Rattle.std.proofs.lemmas.Bool.{cases_eq, cases_lt, false≢true}
 use Rattle.std.proofs.lemmas.List.Elements.{All-get_or, All-cons, All-nil}
 use Rattle.std.proofs.lemmas.Bool.Decides.{nat_tests}
@@ -11,11 +11,11 @@ use Rattle.spl_message.specs.Rule.{Rule}
 use Rattle.spl_message.specs.Span.{InSpan}
 use Rattle.spl_message.specs.Table.{Table, chain}
 use Rattle.spl_node.specs.declared.pivot.Pivot.{Pivot}
-use Rattle.spl_node.specs.Node.{NodeData, bare, pivot_at, pivot_for, span_of, StartsIn, IsMark, IsNode}
+use Rattle.spl_node.specs.Node.{NodeData, bare, pivot_at, pivot_for, StartsIn, IsMark, IsNode}
 use Rattle.spl_node.specs.Steps.{fresh, all_keys}
 use Rattle.spl_node.proofs.Places.{pivot_for_within, pivot_holds}
 use Rattle.spl_trunk.specs.Trunk.{node_at}
-use Rattle.spl_trunk.specs.Tree.{pivot_of, number_of, child_for, live_tables, sub, times, children, leads, IsChild, IsShaped}
+use Rattle.spl_trunk.specs.Tree.{pivot_of, number_of, child_for, live_tables, sub, times, children, IsShaped}
 use Rattle.spl_trunk.proofs.Counts.{times-append, times_one, times_two, times_itself}
 
 some_is : (o : Option ℕ) → IsSome o → o ≡ Some (number_of o)
@@ -62,8 +62,19 @@ module _ (nodes : List NodeData) (shaped : IsShaped nodes) where
       let most = at_most_one (nat_lt child (length nodes)) in
       omega arith
 
+  -- the root is no node's child
+  pub not_root : (n i child : ℕ) → n < length nodes → i < length (node_at nodes n).pivots → (pivot_at (node_at nodes n).pivots i).child ≡ Some child → child ≢ 0
+  not_root n i child below within leads_to is =
+      let one = counted n i 0 within (leads_to ∙ ap (λ (m : ℕ). Some m) is) in
+      let all = times_one children 0 nodes n (fresh 0 bare) below in
+      let parts = times-append 0 (0 ∷ []) (flat_map children nodes) in
+      let itself = times_itself 0 in
+      let once = shaped.parents 0 in
+      let most = at_most_one (nat_lt 0 (length nodes)) in
+      omega arith
+
   -- A node and a child of it are replaced. Where the node means what it meant, so does every other node but the child.
-  module _ (rule : Rule) (table_of : ℕ → Table) (after : ℕ → NodeData) (parent i child : ℕ) (exists : parent < length nodes) (within : i < length (node_at nodes parent).pivots) (leads_to : (pivot_at (node_at nodes parent).pivots i).child ≡ Some child) (others : (n : ℕ) → n ≢ parent → n ≢ child → after n ≡ node_at nodes n) (same : (key : List ℕ) → InSpan (node_at nodes parent).range key → sub rule table_of after (node_at nodes parent).height parent key ≡ sub rule table_of (node_at nodes) (node_at nodes parent).height parent key) where
+  module _ (rule : Rule) (table_of : ℕ → Table) (after : ℕ → NodeData) (parent i child : ℕ) (exists : parent < length nodes) (within : i < length (node_at nodes parent).pivots) (leads_to : (pivot_at (node_at nodes parent).pivots i).child ≡ Some child) (others : (n : ℕ) → n < length nodes → n ≢ parent → n ≢ child → after n ≡ node_at nodes n) (same : (key : List ℕ) → InSpan (node_at nodes parent).range key → sub rule table_of after (node_at nodes parent).height parent key ≡ sub rule table_of (node_at nodes) (node_at nodes parent).height parent key) where
     not_child : (n : ℕ) (key : List ℕ) (height : ℕ) → n < length nodes → n ≢ parent → (node_at nodes n).height ≡ suc height → InSpan (node_at nodes n).range key → child_for (node_at nodes n) key ≢ child
     not_child n key height below other high inside is =
         let node = node_at nodes n in
@@ -86,14 +97,14 @@ module _ (nodes : List NodeData) (shaped : IsShaped nodes) where
     pub sub_elsewhere : (height n : ℕ) (key : List ℕ) → n < length nodes → n ≢ child → (node_at nodes n).height ≡ height → InSpan (node_at nodes n).range key → sub rule table_of after height n key ≡ sub rule table_of (node_at nodes) height n key
     sub_elsewhere zero n key below other low inside = elim (cases_eq n parent) [
       | inl here ↦ at_parent zero n key here low inside
-      | inr there ↦ ap (λ (node : NodeData). act_all rule key None (chain (live_tables table_of node key) key)) (others n there other)
+      | inr there ↦ ap (λ (node : NodeData). act_all rule key None (chain (live_tables table_of node key) key)) (others n below there other)
     ]
     sub_elsewhere (suc height) n key below other high inside = elim (cases_eq n parent) [
       | inl here ↦ at_parent (suc height) n key here high inside
       | inr there ↦
           let down = child_is n key height below high inside in
           let lower = sub_elsewhere height (child_for (node_at nodes n) key) key down.0 (not_child n key height below there high inside) down.1 down.2 in
-          ap (λ (node : NodeData). act_all rule key (sub rule table_of after height (child_for node key) key) (chain (live_tables table_of node key) key)) (others n there other)
+          ap (λ (node : NodeData). act_all rule key (sub rule table_of after height (child_for node key) key) (chain (live_tables table_of node key) key)) (others n below there other)
           ∙ ap (λ (cell : Cell). act_all rule key cell (chain (live_tables table_of (node_at nodes n) key) key)) lower
     ]
 

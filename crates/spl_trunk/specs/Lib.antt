@@ -1,2 +1,3 @@
 pub mod Trunk
 pub mod Tree
+pub mod Moves

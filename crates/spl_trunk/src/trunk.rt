@@ -3,8 +3,8 @@ ghost use Rattle.std.specs.Prelude.{◌≡◌, ℕ, ◌+◌, ◌<◌, ◌≤◌,
 ghost use Rattle.std.specs.List.{insert};
 ghost use Rattle.spl_bundle.specs.Numbered.{next_of, pushed, merged, marked, released};
 ghost use Rattle.spl_node.specs.Node.{bare, pivot_at, AreRising, StartsIn, IsMark};
-ghost use Rattle.spl_node.specs.Steps.{fresh, with_lists, with_pivots, with_mark, trimmed, IsSplitKey, left_of, lifted};
-ghost use Rattle.spl_trunk.specs.Trunk.{node_at, with_node};
+ghost use Rattle.spl_node.specs.Steps.{fresh, with_mark, trimmed, IsSplitKey, left_of, lifted};
+ghost use Rattle.spl_trunk.specs.Trunk.{node_at, with_node, pivots_at, lists_at, with_pivots_at, with_lists_at};
 ghost use Rattle.spl_trunk.specs.Tree.{IsShaped};
 
 use crate::grow::Grow;
@@ -92,14 +92,16 @@ impl Trunk {
         requires exists { node < length self.old }
         requires height { 1 ≤ (node_at self.old node).height }
         requires above { 1 ≤ at }
-        requires within { at ≤ length (node_at self.old node).pivots }
+        requires within { at ≤ length (pivots_at self.old node) }
         requires child { IsSome pivot.child }
         requires start { StartsIn (node_at self.old node).range pivot.start }
-        requires rising { AreRising (insert (node_at self.old node).pivots at pivot) }
-        requires mark { IsMark (node_at self.old node).lists pivot.mark }
-        ensures ok { OnOk result (self.new ≡ with_node self.old node (with_pivots (node_at self.old node) (insert (node_at self.old node).pivots at pivot))) }
-        ensures accepted { IsOk result ↔ (length (node_at self.old node).pivots < MAX_PIVOTS) }
-        ensures full { length (node_at self.old node).pivots ≡ MAX_PIVOTS → result ≡ Err (record { pivots = MAX_PIVOTS }) }
+        requires rising { AreRising (insert (pivots_at self.old node) at pivot) }
+        requires mark { IsMark (lists_at self.old node) pivot.mark }
+        ensures ok { OnOk result
+            (self.new ≡ with_pivots_at self.old node (insert (pivots_at self.old node) at pivot)) }
+        ensures accepted { IsOk result ↔ (length (pivots_at self.old node) < MAX_PIVOTS) }
+        ensures full { length (pivots_at self.old node) ≡ MAX_PIVOTS
+            → result ≡ Err (record { pivots = MAX_PIVOTS }) }
         ensures err { OnErr result (self.new ≡ self.old) }
     {
         self.nodes[node as usize].insert_pivot(at, pivot)
@@ -108,10 +110,11 @@ impl Trunk {
     /// Raises the mark of a pivot of the node.
     pub fn set_mark(&mut self, node: u32, pivot: u32, mark: u64)
         requires exists { node < length self.old }
-        requires within { pivot < length (node_at self.old node).pivots }
-        requires above { (pivot_at (node_at self.old node).pivots pivot).mark ≤ mark }
-        requires made { mark ≤ next_of (node_at self.old node).lists }
-        ensures { self.new ≡ with_node self.old node (with_mark (node_at self.old node) pivot mark) }
+        requires within { pivot < length (pivots_at self.old node) }
+        requires above { (pivot_at (pivots_at self.old node) pivot).mark ≤ mark }
+        requires made { mark ≤ next_of (lists_at self.old node) }
+        ensures value { self.new ≡ with_node self.old node (with_mark (node_at self.old node) pivot mark) }
+        ensures shaped { IsShaped self.old → IsShaped self.new }
     {
         self.nodes[node as usize].set_mark(pivot, mark);
     }
@@ -119,16 +122,21 @@ impl Trunk {
     /// Adds a copy of the list as the newest bundle of the node. Returns its number.
     pub fn push(&mut self, node: u32, list: &[u64]) -> Result<u64, Limit>
         requires exists { node < length self.old }
-        requires numbers { next_of (node_at self.old node).lists < 2 ^ 63 }
-        ensures number { IfOk result (λ number. number ≡ next_of (node_at self.old node).lists) }
-        ensures ok { OnOk result (self.new ≡ with_node self.old node (with_lists (node_at self.old node) (pushed (node_at self.old node).lists list.now))) }
-        ensures accepted { IsOk result ↔ ((length (node_at self.old node).lists.bundles < MAX_LISTS) × (length list.now ≤ MAX_BRANCHES)) }
+        requires numbers { next_of (lists_at self.old node) < 2 ^ 63 }
+        ensures number { IfOk result (λ number. number ≡ next_of (lists_at self.old node)) }
+        ensures ok { OnOk result
+            (self.new ≡ with_lists_at self.old node (pushed (lists_at self.old node) list.now)) }
+        ensures accepted { IsOk result
+            ↔ ((length (lists_at self.old node).bundles < MAX_LISTS) × (length list.now ≤ MAX_BRANCHES)) }
 
         // That there are too many bundles is said first.
-        ensures lists { length (node_at self.old node).lists.bundles ≡ MAX_LISTS → result ≡ Err (Limit.Lists MAX_LISTS) }
-        ensures branches { length (node_at self.old node).lists.bundles < MAX_LISTS → MAX_BRANCHES < length list.now
+        ensures lists { length (lists_at self.old node).bundles ≡ MAX_LISTS
+            → result ≡ Err (Limit.Lists MAX_LISTS) }
+        ensures branches { length (lists_at self.old node).bundles < MAX_LISTS
+            → MAX_BRANCHES < length list.now
             → result ≡ Err (Limit.Branches (min (length list.now) u32.MAX)) }
         ensures err { OnErr result (self.new ≡ self.old) }
+        ensures shaped { IsShaped self.old → IsShaped self.new }
     {
         self.nodes[node as usize].push(list)
     }
@@ -137,9 +145,11 @@ impl Trunk {
     pub fn merge(&mut self, node: u32, first: u64, last: u64, output: Option<u64>)
         requires exists { node < length self.old }
         requires in_order { first ≤ last }
-        requires stands { (node_at self.old node).lists.first ≤ last }
-        requires made { last < next_of (node_at self.old node).lists }
-        ensures { self.new ≡ with_node self.old node (with_lists (node_at self.old node) (merged (node_at self.old node).lists first last output)) }
+        requires stands { (lists_at self.old node).first ≤ last }
+        requires made { last < next_of (lists_at self.old node) }
+        ensures value { self.new
+            ≡ with_lists_at self.old node (merged (lists_at self.old node) first last output) }
+        ensures shaped { IsShaped self.old → IsShaped self.new }
     {
         self.nodes[node as usize].merge(first, last, output);
     }
@@ -148,9 +158,11 @@ impl Trunk {
     pub fn set_ticket(&mut self, node: u32, first: u64, last: u64, actor: Option<u32>)
         requires exists { node < length self.old }
         requires in_order { first ≤ last }
-        requires stands { (node_at self.old node).lists.first ≤ last }
-        requires made { last < next_of (node_at self.old node).lists }
-        ensures { self.new ≡ with_node self.old node (with_lists (node_at self.old node) (marked (node_at self.old node).lists first last actor)) }
+        requires stands { (lists_at self.old node).first ≤ last }
+        requires made { last < next_of (lists_at self.old node) }
+        ensures value { self.new
+            ≡ with_lists_at self.old node (marked (lists_at self.old node) first last actor) }
+        ensures shaped { IsShaped self.old → IsShaped self.new }
     {
         self.nodes[node as usize].set_ticket(first, last, actor);
     }
@@ -158,7 +170,8 @@ impl Trunk {
     /// Clears every mark of the actor in the node.
     pub fn release(&mut self, node: u32, actor: u32)
         requires { node < length self.old }
-        ensures { self.new ≡ with_node self.old node (with_lists (node_at self.old node) (released (node_at self.old node).lists actor)) }
+        ensures value { self.new ≡ with_lists_at self.old node (released (lists_at self.old node) actor) }
+        ensures shaped { IsShaped self.old → IsShaped self.new }
     {
         self.nodes[node as usize].release(actor);
     }
@@ -186,7 +199,8 @@ impl Trunk {
     /// Drops the bundles at the front of the node that are empty or live for no pivot.
     pub fn trim(&mut self, node: u32)
         requires { node < length self.old }
-        ensures { self.new ≡ with_node self.old node (trimmed (node_at self.old node)) }
+        ensures value { self.new ≡ with_node self.old node (trimmed (node_at self.old node)) }
+        ensures shaped { IsShaped self.old → IsShaped self.new }
     {
         self.nodes[node as usize].trim();
     }

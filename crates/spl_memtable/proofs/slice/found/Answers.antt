@@ -1,4 +1,4 @@
-use Rattle.std.proofs.Common.{◌≡◌, ℕ, List, rules, ap, None, Some, length, get_or, refl, subst, sym, ◌∙◌}
+use Rattle.std.proofs.Common.{◌≡◌, ℕ, List, rules, ap, Some, length, get_or, refl, subst, sym, ◌∙◌}
 use Rattle.std.proofs.lemmas.Fn.{always_returns_same}
 use Rattle.std.proofs.lemmas.Option.{slice_get_read}
 use Rattle.spl_message.specs.declared.message.Message.{Message}

@@ -1,21 +1,40 @@
-use Rattle.spl_page.proofs.Numbers.{rest_is}
-use Rattle.spl_page.proofs.IndexReading.{so_far_none, so_far_more, so_far_stops, so_far_all}
+use Rattle.std.proofs.Common.{◌≡◌, ◌<◌, Some, length, get_or, refl, sym, ap, subst, ◌∙◌, arith}
+use Rattle.std.specs.Prelude.{IsSome}
+use Rattle.std.specs.List.{slice_get}
+use Rattle.std.proofs.lemmas.List.Elements.{All-get_or}
+use Rattle.std.proofs.lemmas.List.Sums.{sum_by_push}
+use Rattle.spl_port.specs.Page.{index_row, index_row_length}
+use Rattle.spl_page.specs.declared.index_entry.IndexEntry.{IndexEntry}
+use Rattle.spl_page.specs.IndexPage.{index_entry_length, index_row_of}
+use Rattle.spl_page.specs.Sound.{entries_of}
+use Rattle.spl_page.proofs.Lists.{is_there, read_more}
+use Rattle.spl_page.proofs.Starts.{count_is, entry_at}
 use Rattle.spl_page.proofs.index_page.read_entries.Goals as goal
 
-pub loop-init : goal.loop-init
-loop-init c = rw c.new-entries.ensures.items (so_far_none c.args.page c.args.bytes.now c.entry_count-count.result c.entry_count-count.ensures)
+pub bytes_from-requires : goal.bytes_from-requires
+bytes_from-requires c =
+    All-get_or (λ start. start < 4096) c.args.starts.now c.loop-start.start-index 0 c.loop-start-test.true c.requires.places.within
 
-pub returns-in_default : goal.returns-in_default
-returns-in_default c =
-    so_far_stops c.args.page c.args.bytes.now c.entry_count-count.result c.loop.counter c.loop.end c.loop.entries.items _ c.loop.invariant c.loop-test.true
-    (rest_is c.loop.end c.args.bytes.now) c.in_default.ensures.value
+pub read_entry-entry-requires : goal.read_entry-entry-requires
+read_entry-entry-requires c =
+    let starts = c.args.starts.now in
+    let rows = entries_of (index_row c.args.page) index_row_length c.args.bytes.now in
+    let i = c.loop-start.start-index in
+    let within : i < length rows = omega (arith, c.loop-start-test.true, count_is (index_row c.args.page) index_row_length c.args.bytes.now starts c.requires.places) in
+    let at = entry_at (index_row c.args.page) index_row_length c.args.bytes.now starts c.requires.places i (get_or starts i 0) 0 within refl in
+    subst IsSome (at ∙ ap (index_row c.args.page) (sym c.bytes_from.ensures)) (is_there rows i within)
 
-pub loop-preserved : goal.loop-preserved
-loop-preserved c =
-    rw (c.in_ok-push.ensures.items, c.entry_length-end.ensures.value)
-    (so_far_more c.args.page c.args.bytes.now c.entry_count-count.result c.loop.counter c.loop.end c.loop.entries.items c.in-Some.entry _
-    c.loop.invariant c.loop-test.true c.requires (rest_is c.loop.end c.args.bytes.now) c.in-Some.ensures.value c.in-Some.ensures.length c.in-Some.ensures.within)
-
-pub returns : goal.returns
-returns c =
-    so_far_all c.args.page c.args.bytes.now c.entry_count-count.result c.loop.counter c.loop.end c.loop.entries.items c.loop.invariant c.loop-test.false
+pub loop-start-preserved : goal.loop-start-preserved
+loop-start-preserved c =
+    let starts = c.args.starts.now in
+    let rows = entries_of (index_row c.args.page) index_row_length c.args.bytes.now in
+    let i = c.loop-start.start-index in
+    let within : i < length rows = omega (arith, c.loop-start-test.true, count_is (index_row c.args.page) index_row_length c.args.bytes.now starts c.requires.places) in
+    let at = entry_at (index_row c.args.page) index_row_length c.args.bytes.now starts c.requires.places i (get_or starts i 0) 0 within refl in
+    let entry = c.read_entry-entry.result in
+    let here : slice_get rows i ≡ Some (index_row_of entry) = at ∙ ap (index_row c.args.page) (sym c.bytes_from.ensures) ∙ c.read_entry-entry.ensures in
+    rw c.in_ok-push.ensures.items (record {
+      front = read_more index_row_of rows i c.loop-start.entries.items entry c.loop-start.invariant.front here;
+      length = omega (arith, c.loop-start.invariant.length, c.entry_length-end.ensures.value, sum_by_push (λ (e : IndexEntry). index_entry_length e.first) c.loop-start.entries.items entry);
+      most = omega (arith, c.loop-start.invariant.most, c.entry_length-end.ensures.short);
+    })

@@ -1,4 +1,4 @@
-use Rattle.std.proofs.Common.{◌≡◌, ap, ◌∙◌}
+use Rattle.std.proofs.Common.{ap, ◌∙◌}
 use Rattle.spl_message.specs.Table.{Table, message_at, part_of}
 use Rattle.spl_message.proofs.Tables.{message_at-part_of}
 use Rattle.spl_memtable.proofs.frozen.Frozen.slice.Goals as goal

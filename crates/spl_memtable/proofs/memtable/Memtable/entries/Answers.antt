@@ -1,4 +1,4 @@
-use Rattle.std.proofs.Common.{◌≡◌, filter, subst, sym, ap, ◌∙◌}
+use Rattle.std.proofs.Common.{filter, subst, sym, ap, ◌∙◌}
 use Rattle.spl_message.specs.Entries.{Entries, AreEntries}
 use Rattle.spl_message.specs.Span.{is_before, is_from}
 use Rattle.spl_message.specs.Table.{Table}

@@ -1,7 +1,7 @@
-use Rattle.std.proofs.Common.{◌≡◌, ◌++◌, ap, sym, ◌∙◌}
+use Rattle.std.proofs.Common.{◌++◌, ap, sym, ◌∙◌}
 use Rattle.std.proofs.lemmas.List.{append-nil}
 use Rattle.spl_message.specs.Entries.{Entries}
-use Rattle.spl_message.specs.Table.{Table, as_table, message_at, part_of}
+use Rattle.spl_message.specs.Table.{Table, as_table, message_at}
 use Rattle.spl_message.proofs.Tables.{message_at-part_of}
 use Rattle.spl_memtable.proofs.memtable.Memtable.slice.Goals as goal
 

@@ -1,5 +1,5 @@
-use Rattle.std.proofs.Common.{◌≡◌, cond, None, Option, ap, sym, subst, ◌∙◌}
-use Rattle.spl_message.specs.Table.{Table, message_at, part_of}
+use Rattle.std.proofs.Common.{cond, None, ap, sym, ◌∙◌}
+use Rattle.spl_message.specs.Table.{Table, message_at}
 use Rattle.spl_message.proofs.Tables.{message_at-part_of}
 use Rattle.spl_memtable.specs.declared.slice.Part.{Part}
 use Rattle.spl_memtable.specs.Slice.{shown}

@@ -1,45 +1,38 @@
-use Rattle.std.proofs.Common.{◌≡◌, ◌++◌, List, ℕ, drop, ap, subst, ◌∙◌, arith}
-use Rattle.std.specs.Prelude.{replicate, vec_len, ◌-◌}
-use Rattle.spl_port.specs.Page.{IndexRow, IsIndexPage}
-use Rattle.spl_page.specs.Frame.{head_text}
-use Rattle.spl_page.specs.IndexPage.{index_rows_of}
-use Rattle.spl_page.specs.IndexWriter.{IsWritten, index_entries_of}
-use Rattle.spl_page.proofs.IndexTables.{bytes_are, holds, is_page, most, none_written, page_begins, page_children, reads}
+use Rattle.std.proofs.Common.{◌≡◌, ◌<◌, eqb, false, length, List, ℕ, None, sym, ap, subst, ◌∙◌, arith}
+use Rattle.std.specs.Prelude.{All, slice_index}
+use Rattle.std.proofs.lemmas.Result.{IfOk-weaker, on_err_weaker, on_ok_weaker}
+use Rattle.spl_port.specs.Page.{IndexRow, index_fault, index_row, index_row_length, kind_fault}
+use Rattle.spl_port.specs.Seal.{begins_leaf}
+use Rattle.spl_page.specs.Sound.{entries_of, page_rows}
+use Rattle.spl_page.specs.Tables.{children}
+use Rattle.spl_page.specs.Writer.{rows_written, written_children}
+use Rattle.spl_page.proofs.IndexText.{are, children_are, no_fault, none_written}
 use Rattle.spl_page.proofs.index_writer.IndexWriter.finish.Goals as goal
-use Rattle.spl_page.proofs.index_writer.IndexWriter.finish.Goals.{In_ok-page}
 
-pub finish_page-requires-clause-begun : goal.finish_page-requires-clause-begun
-finish_page-requires-clause-begun c =
-    let bytes = c.self.inside.bytes.items in
-    let is = subst (λ (rows : List IndexRow). IsWritten rows c.self.inside.count bytes) c.self.view_is c.self.invariant in
-    omega (arith, bytes_are _ _ bytes is, most _ _ bytes is, c.requires.entries)
+pub finish-requires-clause-some : goal.finish-requires-clause-some
+finish-requires-clause-some c =
+    omega (arith, c.requires.entries, ap (λ (rows : List IndexRow). length rows) (sym (are c.self.inside.page) ∙ c.self.view_is))
 
-pub finish_page-requires-clause-fits : goal.finish_page-requires-clause-fits
-finish_page-requires-clause-fits c = omega (arith, bytes_are _ _ _ c.self.invariant, c.self.invariant.fits)
-
-pub invariant_of-self-2 : goal.invariant_of-self-2
-invariant_of-self-2 c = holds _ _ _ (none_written _ c.in_ok-page.ensures.ok)
-
-made : (c : In_ok-page) → c.in_ok-page.page ≡ head_text 73 c.self.inside.count c.args.at ++ (drop 16 c.self.inside.bytes.items ++ replicate (4096 - vec_len c.self.inside.bytes) 0)
-made c =
-    c.in_ok-page.ensures.page
-    ∙ ap (λ (t : List ℕ). t ++ (drop 16 c.self.inside.bytes.items ++ replicate (4096 - vec_len c.self.inside.bytes) 0)) c.write_head-head.ensures.bytes
-
-page_is : (c : In_ok-page) → IsIndexPage c.args.at c.in_ok-page.page (index_rows_of (index_entries_of c.args.self.now))
-page_is c =
-    let bytes = c.self.inside.bytes.items in
-    let is = subst (λ (rows : List IndexRow). IsWritten rows c.self.inside.count bytes) c.self.view_is c.self.invariant in
-    is_page c.args.self.now c.self.inside.count bytes c.in_ok-page.page c.args.at (4096 - vec_len c.self.inside.bytes) is
-    c.requires.index c.write_head-head.ensures.page c.write_head-head.ensures.branch c.requires.entries c.requires.children (made c)
+pub finish-requires-clause-places : goal.finish-requires-clause-places
+finish-requires-clause-places c =
+    subst (All (λ (row : IndexRow). row.child < c.args.at.page)) (sym c.self.view_is ∙ are c.self.inside.page) c.requires.children
 
 pub returns-clause-page : goal.returns-clause-page
-returns-clause-page c = (page_is (goal.at.returns-clause-page c).In_ok-page).sound
+returns-clause-page c =
+    IfOk-weaker c.finish.result (λ (page : List ℕ). kind_fault 73 (λ row. row.key) (page_rows (index_row c.args.at.page) index_row_length page) c.args.at page ≡ None)
+    (λ page. index_fault c.args.at page ≡ None) (λ page is. no_fault c.args.at page is) c.finish.ensures.page
 
 pub returns-clause-children : goal.returns-clause-children
-returns-clause-children c = page_children c.args.self.now c.args.at c.in_ok-page.page (page_is (goal.at.returns-clause-children c).In_ok-page)
+returns-clause-children c =
+    IfOk-weaker c.finish.result (λ (page : List ℕ). entries_of (index_row c.args.at.page) index_row_length page ≡ rows_written index_row index_row_length c.self.inside.page)
+    (λ page. children c.args.at.page page ≡ c.args.self.now) (λ page is. children_are c.self.inside.page c.args.at.page page is ∙ c.self.view_is) c.finish.ensures.entries
 
 pub returns-clause-kind : goal.returns-clause-kind
-returns-clause-kind c = page_begins c.in_ok-page.page _ c.self.inside.count c.args.at (made (goal.at.returns-clause-kind c).In_ok-page)
+returns-clause-kind c =
+    IfOk-weaker c.finish.result (λ (page : List ℕ). slice_index page 0 ≡ 73) (λ page. begins_leaf page ≡ false) (λ page is. ap (λ (n : ℕ). eqb n 76) is) c.finish.ensures.kind
 
 pub returns-clause-ok : goal.returns-clause-ok
-returns-clause-ok c = reads _ _ _ (none_written _ c.in_ok-page.ensures.ok)
+returns-clause-ok c = on_ok_weaker c.finish.result (λ is. ap written_children is ∙ none_written) c.finish.ensures.ok
+
+pub returns-clause-err : goal.returns-clause-err
+returns-clause-err c = on_err_weaker c.finish.result (λ is. ap written_children is ∙ c.self.view_is) c.finish.ensures.err

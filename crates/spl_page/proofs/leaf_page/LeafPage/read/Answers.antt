@@ -1,20 +1,26 @@
-use Rattle.std.proofs.Common.{sym, ◌∙◌, arith}
-use Rattle.spl_page.proofs.LeafReading.{entries_there, is_page, read_rises}
+use Rattle.std.proofs.Common.{◌≡◌, None, refl, rules, sym, ◌∙◌, arith}
+use Rattle.spl_port.specs.Page.{page_fault}
+use Rattle.spl_page.proofs.LeafReading.{form_fault_is, is_page, page_rises}
 use Rattle.spl_page.proofs.leaf_page.LeafPage.read.Goals as goal
 
-pub unreachable-requires : goal.unreachable-requires
-unreachable-requires c =
-    entries_there c.args.at c.args.bytes.now c.requires (sym c.in_default.is ∙ c.fault_of.ensures) (rw c.in-None.is at c.in_ok-found.ensures)
+pub returns-in-Some-clause-err : goal.returns-in-Some-clause-err
+returns-in-Some-clause-err c = (refl, sym (form_fault_is c.args.at c.args.bytes.now c.requires) ∙ sym c.form_fault.ensures.fault ∙ c.in-Some.is)
+
+pub returns-in_err-entries-clause-err : goal.returns-in_err-entries-clause-err
+returns-in_err-entries-clause-err c =
+    let none : page_fault c.args.at c.args.bytes.now ≡ None =
+    sym (form_fault_is c.args.at c.args.bytes.now c.requires) ∙ sym c.form_fault.ensures.fault ∙ c.in_default.is in
+    search (rules, none)
 
 pub invariant_of-result : goal.invariant_of-result
 invariant_of-result c =
-    let found = rw c.in-Some-2.is at c.in_ok-found.ensures in
+    let sound = sym c.form_fault.ensures.fault ∙ c.in_default.is in
     record {
-      rising = read_rises c.args.at c.args.bytes.now c.in-Some-2.found.entries.items _ c.requires (sym c.in_default.is ∙ c.fault_of.ensures) found.rows;
-      length = omega (arith, found.length, found.within);
+      rising = page_rises c.args.at c.args.bytes.now c.in_ok-entries.field-0.entries.items sound c.in_ok-entries.ensures.ok;
+      length = omega (arith, c.in_ok-entries.ensures.end, c.in_ok-entries.ensures.short);
     }
 
 pub returns-clause-ok : goal.returns-clause-ok
 returns-clause-ok c =
-    let found = rw c.in-Some-2.is at c.in_ok-found.ensures in
-    is_page c.args.at c.args.bytes.now c.in-Some-2.found.entries.items _ c.requires (sym c.in_default.is ∙ c.fault_of.ensures) found.rows
+    let sound = sym c.form_fault.ensures.fault ∙ c.in_default.is in
+    is_page c.args.at c.args.bytes.now c.in_ok-entries.field-0.entries.items sound c.in_ok-entries.ensures.ok

@@ -1,30 +1,41 @@
-use Rattle.std.proofs.Common.{◌<◌, ◌≤◌, ◌++◌, ◌∙◌, List, ℕ, length, sym, ap, subst, arith}
-use Rattle.std.specs.List.{flat_map}
-use Rattle.std.proofs.lemmas.List.Elements.{recursion_from_All}
-use Rattle.spl_port.specs.Page.{IsLeafPage, is_rising}
+use Rattle.std.proofs.Common.{◌≡◌, List, ℕ, None, length, ap, subst, ◌∙◌, arith}
+use Rattle.std.proofs.lemmas.List.{length-map}
+use Rattle.spl_port.specs.Page.{IsLeafPage, LeafRow, is_rising, kind_fault, leaf_row, leaf_row_length}
 use Rattle.spl_page.specs.declared.leaf_entry.LeafEntry.{LeafEntry}
-use Rattle.spl_page.specs.LeafPage.{IsEntry, leaf_keys, leaf_entry_text, leaf_length, leaf_rows_of}
-use Rattle.spl_page.proofs.LeafWriting.{few, filled, written}
+use Rattle.spl_page.specs.LeafPage.{leaf_keys, leaf_length, leaf_row_of, leaf_rows_of}
+use Rattle.spl_page.specs.Sound.{entries_of, page_rows}
+use Rattle.spl_page.specs.Writer.{leaf_rows_written}
+use Rattle.spl_page.proofs.LeafReading.{is_page, length_is, rises}
+use Rattle.spl_page.proofs.Lists.{if_ok_both}
 use Rattle.spl_page.proofs.leaf_page.LeafPage.write.Goals as goal
 
-pub overflow_cast-entries : goal.overflow_cast-entries
-overflow_cast-entries c =
-    let is = c.as_slice-entries.ensures.value ∙ c.self.view_is in
-    let count = few c.as_slice-entries.result.now (subst (λ (es : List LeafEntry). leaf_length es ≤ 4096) (sym is) c.requires.fits) in
-    omega (arith, count)
+pub write_entries-requires-clause-rising : goal.write_entries-requires-clause-rising
+write_entries-requires-clause-rising c =
+    rises c.as_slice.result.now (ap (λ (es : List LeafEntry). is_rising (leaf_keys es)) c.as_slice.ensures.value ∙ c.self.invariant.rising)
+
+pub write_entries-requires-clause-empty : goal.write_entries-requires-clause-empty
+write_entries-requires-clause-empty c = ap leaf_rows_written c.new-page.ensures
+
+pub write_entries-requires-clause-fits : goal.write_entries-requires-clause-fits
+write_entries-requires-clause-fits c =
+    omega (arith, length_is c.as_slice.result.now, ap leaf_length (c.as_slice.ensures.value ∙ c.self.view_is), c.requires.fits)
+
+pub finish-requires-clause-some : goal.finish-requires-clause-some
+finish-requires-clause-some c =
+    let written = ap (λ (rows : List LeafRow). length rows) c.in_ok-write_entries.ensures in
+    let listed = ap (λ (es : List LeafEntry). length es) (c.as_slice.ensures.value ∙ c.self.view_is) in
+    omega (arith, written, length-map c.as_slice.result.now leaf_row_of, listed, c.requires.entries)
+
+pub finish-requires-clause-places : goal.finish-requires-clause-places
+finish-requires-clause-places c = λ k d lt. tt
 
 pub returns : goal.returns
 returns c =
-    let entries = c.as_slice-entries.result.now in
-    let is = c.as_slice-entries.ensures.value ∙ c.self.view_is in
-    let fits = subst (λ (es : List LeafEntry). leaf_length es ≤ 4096) (sym is) c.requires.fits in
-    let some = subst (λ (es : List LeafEntry). 0 < length es) (sym is) c.requires.entries in
-    let rising = ap (λ (es : List LeafEntry). is_rising (leaf_keys es)) c.as_slice-entries.ensures.value ∙ c.self.invariant.rising in
-    let out =
-    c.in_ok-write_entries.ensures.ok
-    ∙ ap (λ (t : List ℕ). t ++ flat_map leaf_entry_text entries)
-    (c.in_ok-extend_from_slice.ensures.items ∙ ap (λ (t : List ℕ). t ++ c.write_head-head.result) c.in_ok-out.ensures.items ∙ c.write_head-head.ensures.bytes) in
-    let page = filled c.args.at entries c.write_entries.new.out.items c.from_vec.result _ fits out (c.from_vec.ensures ∙ c.in_ok-resize.ensures.items) in
-    subst (λ (es : List LeafEntry). IsLeafPage c.args.at c.from_vec.result (leaf_rows_of es)) is
-    (written c.args.at entries c.from_vec.result _ c.requires.leaf c.write_head-head.ensures.page c.write_head-head.ensures.branch (few entries fits) some
-    (recursion_from_All IsEntry entries c.in_ok-write_entries.ensures.entries) rising page)
+    let entries = c.as_slice.result.now in
+    let is = c.as_slice.ensures.value ∙ c.self.view_is in
+    if_ok_both c.finish.result
+    (λ (page : List ℕ). kind_fault 76 (λ row. row.key) (page_rows leaf_row leaf_row_length page) c.args.at page ≡ None)
+    (λ page. entries_of leaf_row leaf_row_length page ≡ leaf_rows_written c.write_entries.new.page)
+    (λ page. IsLeafPage c.args.at page (leaf_rows_of c.args.self.now))
+    (λ page sound are. subst (λ (es : List LeafEntry). IsLeafPage c.args.at page (leaf_rows_of es)) is (is_page c.args.at page entries sound (are ∙ c.in_ok-write_entries.ensures)))
+    c.finish.ensures.page c.finish.ensures.entries

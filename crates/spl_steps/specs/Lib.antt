@@ -1,0 +1,2 @@
+pub mod Latching
+pub mod Memory
