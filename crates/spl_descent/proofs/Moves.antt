@@ -65,7 +65,7 @@ same_source old new tables refs (Pack number table) = λ i f at is. (i, ap (λ (
 same_source old new tables refs (Merge number run) = λ n among. ap (λ (r : _). branches (record new { refs = r }) n) refs
 
 module _ (old : Whole) (sound : IsSound old) (actor : ℕ) (mine : Actor) (grips : List (List Grip)) (places : ℕ) (move : IsMove old actor mine grips places) where
-  abbrev pub moved : Whole
+  abbrev moved : Whole
   moved = record old { grips = grips; actors = set old.actors actor mine; counters = record old.counters { places = places } }
 
   mine_now : actor_in moved.actors actor ≡ mine
@@ -126,7 +126,7 @@ module _ (old : Whole) (sound : IsSound old) (actor : ℕ) (mine : Actor) (grips
   names : (a b : Actor) → a.job ≡ b.job → a.published ≡ b.published → named_by a ≡ named_by b
   names a b job published = rw (job, published) refl
 
-  pub moved_sound : IsSound moved
+  moved_sound : IsSound moved
   moved_sound = record {
     shaped = sound.shaped;
     latches = move.nodes ∙ sound.latches;
@@ -157,7 +157,7 @@ module _ (old : Whole) (sound : IsSound old) (actor : ℕ) (mine : Actor) (grips
     };
   }
 
-  pub moved_framed : (rule : Rule) (tells : Bool) → (tells ≡ true → AreDrafts rule old) → IsFramed rule tells old moved actor
+  moved_framed : (rule : Rule) (tells : Bool) → (tells ≡ true → AreDrafts rule old) → IsFramed rule tells old moved actor
   moved_framed rule tells drafts = record {
     drafts = λ told number job has published. drafts told number job (sym (jobs number) ∙ has) (sym (drafts_now number) ∙ published);
     means = λ told key. refl;
@@ -170,3 +170,21 @@ module _ (old : Whole) (sound : IsSound old) (actor : ℕ) (mine : Actor) (grips
       written = λ node writes. record { pivots = refl; bundles = refl; split = refl };
     };
   }
+
+-- the same, as the calls that make the step leave the parts
+module _ (old : Whole) (sound : IsSound old) (actor : ℕ) (mine : Actor) (left grips : List (List Grip)) (places : ℕ) (actors : List Actor) (counters : Counters) (move : IsMove old actor mine left places) (are_left : grips ≡ left) (are_set : actors ≡ set old.actors actor mine) (are_counted : counters ≡ record old.counters { places = places }) where
+  pub sound_where : IsSound (record old { grips = grips; actors = actors; counters = counters })
+  sound_where =
+      let whole = moved_sound old sound actor mine left places move in
+      let with_counters = subst (λ (c : Counters). IsSound (record old { grips = left; actors = set old.actors actor mine; counters = c })) (sym are_counted) whole in
+      let with_actors = subst (λ (a : List Actor). IsSound (record old { grips = left; actors = a; counters = counters })) (sym are_set) with_counters in
+      subst (λ (g : List (List Grip)). IsSound (record old { grips = g; actors = actors; counters = counters })) (sym are_left) with_actors
+
+  pub framed_where : (before : Whole) → before ≡ old → (rule : Rule) (tells : Bool) → (tells ≡ true → AreDrafts rule before) → IsFramed rule tells before (record old { grips = grips; actors = actors; counters = counters }) actor
+  framed_where before is_old rule tells drafts =
+      let known_drafts : tells ≡ true → AreDrafts rule old = λ told. subst (λ (w : Whole). AreDrafts rule w) is_old (drafts told) in
+      let whole = moved_framed old sound actor mine left places move rule tells known_drafts in
+      let with_counters = subst (λ (c : Counters). IsFramed rule tells old (record old { grips = left; actors = set old.actors actor mine; counters = c }) actor) (sym are_counted) whole in
+      let with_actors = subst (λ (a : List Actor). IsFramed rule tells old (record old { grips = left; actors = a; counters = counters }) actor) (sym are_set) with_counters in
+      let with_grips = subst (λ (g : List (List Grip)). IsFramed rule tells old (record old { grips = g; actors = actors; counters = counters }) actor) (sym are_left) with_actors in
+      subst (λ (w : Whole). IsFramed rule tells w (record old { grips = grips; actors = actors; counters = counters }) actor) (sym is_old) with_grips
