@@ -1,3 +1,6 @@
+ghost use Rattle.std.specs.Prelude.{◌≡◌, ◌≤◌};
+ghost use Rattle.spl_node.specs.Steps.{all_keys};
+
 use crate::{Node, Pivot, Pivots};
 use spl_message::{Bound, Key, Span};
 use std::test::Fail;
@@ -28,6 +31,46 @@ fn the_live_lists_of_a_pivot_begin_at_its_mark(rt: HostRuntime) -> Result<(), Fa
     assert_eq!(rt; node.lists().first(), 1);
     assert_eq!(rt; node.pivot_of(&Key::read(b"l")?), 0);
     assert_eq!(rt; node.pivot_of(&Key::read(b"m")?), 1);
+    Ok(())
+}
+
+/// Inserts a pivot right behind the first one, or nothing where the next one does not start behind it.
+fn insert_second(node: &mut Node, start: Key) -> Option<Result<(), Pivots>>
+    requires high { 1 ≤ node.old.height }
+    requires range { node.old.range ≡ all_keys }
+    ensures high { node.new.height ≡ node.old.height }
+    ensures range { node.new.range ≡ node.old.range }
+{
+    let pivots = node.pivots();
+    if pivots.len() > 1 && pivots[1].starts_by(&start) {
+        return None;
+    }
+    let mark = node.lists().next();
+    let pivot = Pivot {
+        start: Some(start),
+        child: Some(1),
+        mark,
+    };
+    Some(node.insert_pivot(1, pivot))
+}
+
+#[test]
+fn a_seventeenth_pivot_is_refused(rt: HostRuntime) -> Result<(), Fail> {
+    let first = Pivot {
+        start: None,
+        child: Some(1),
+        mark: 0,
+    };
+    let mut node = Node::inner(rt.alloc(), 1, first)?;
+    for n in 0..15u8 {
+        let start = Key::read(&[120 - n])?;
+        assert_eq!(rt; insert_second(&mut node, start), Some(Ok(())));
+    }
+    let start = Key::read(b"a")?;
+    assert_eq!(rt;
+        insert_second(&mut node, start),
+        Some(Err(Pivots { pivots: 16 }))
+    );
     Ok(())
 }
 

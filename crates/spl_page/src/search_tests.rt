@@ -1,3 +1,5 @@
+ghost use Rattle.std.specs.Prelude.{◌≤◌, length};
+
 use super::tests::page;
 use super::*;
 use spl_message::{Key, Message, Value};
@@ -29,6 +31,18 @@ const INDEX: At = At {
 const CHILDREN: &[u8] =
     b"I\x01\x00\x03\x00\x00\x00\x06\x00\x00\x00\x00\x00\x00\x00\x07\x00\x00\x00\x01\x01b\x00\x00\x00\x03\x01d\x00\x00\x00\x05\x01f";
 
+/// The page that the text is at the place, which is there what was asked for.
+fn sound(alloc: Global, text: &[u8], at: At) -> Result<AnyPage, Fail>
+    requires { length text.now ≤ 4096 }
+{
+    let bytes = page(text);
+    let page = AnyPage::check(alloc, PageBytes::copy(alloc, &bytes)?, at)?;
+    if page.at() != at || *page.bytes() != bytes {
+        return Err("another page".into());
+    }
+    Ok(page)
+}
+
 /// What is lent, in memory of its own.
 fn copied(alloc: Global, found: Option<LentMessage<'_>>) -> Result<Option<Message>, Fail> {
     match found {
@@ -40,8 +54,7 @@ fn copied(alloc: Global, found: Option<LentMessage<'_>>) -> Result<Option<Messag
 #[test]
 fn a_message_is_found_at_its_key_alone(rt: HostRuntime) -> Result<(), Fail> {
     let alloc = rt.alloc();
-    let bytes = PageBytes::copy(alloc, &page(MESSAGES))?;
-    let AnyPage::Leaf(page) = AnyPage::check(alloc, bytes, LEAF)? else {
+    let AnyPage::Leaf(page) = sound(alloc, MESSAGES, LEAF)? else {
         return Err("an index page".into());
     };
     let insert = Message::Insert(Value::read(alloc, b"1")?);
@@ -70,10 +83,7 @@ fn a_message_is_found_at_its_key_alone(rt: HostRuntime) -> Result<(), Fail> {
 #[test]
 fn a_child_has_the_keys_from_its_first_key_on(rt: HostRuntime) -> Result<(), Fail> {
     let alloc = rt.alloc();
-    let bytes = PageBytes::copy(alloc, &page(CHILDREN))?;
-    let sound = AnyPage::check(alloc, bytes, INDEX)?;
-    assert!(rt; sound.at() == INDEX && *sound.bytes() == page(CHILDREN));
-    let AnyPage::Index(page) = sound else {
+    let AnyPage::Index(page) = sound(alloc, CHILDREN, INDEX)? else {
         return Err("a leaf page".into());
     };
     let cases = [

@@ -1,2 +1,3 @@
 pub mod Latches
 pub mod Puts
+pub mod Retired

@@ -1,2 +1,3 @@
 pub mod Latching
 pub mod Memory
+pub mod Retiring
