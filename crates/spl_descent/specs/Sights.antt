@@ -44,7 +44,7 @@ module _ {B : Type 0} where
   abbrev pub IfSight : Reply B → (Sight B → Type 0) → Type 0
   IfSight answer IsSeen = OnSight answer IsSeen (Unit {0})
 
-  -- the answer is the refusal, where there is one, and else a sight, but for want of memory
+  -- the answer is the refusal, where there is one, and else a sight, unless memory runs out
   abbrev pub Answers : Option (Reply B) → Reply B → Type 0
   Answers (Some refusal) answer = answer ≡ refusal
   Answers None answer = OnSight answer (λ sight. Unit {0}) (answer ≡ reply.NoMemory)
