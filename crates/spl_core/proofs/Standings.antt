@@ -13,7 +13,6 @@ use Rattle.spl_message.specs.Key.{same_key}
 use Rattle.spl_message.specs.Message.{act, act_all}
 use Rattle.spl_message.specs.declared.span.Span.{Span}
 use Rattle.spl_message.specs.Rule.{Rule}
-use Rattle.spl_message.specs.Table.{Table}
 use Rattle.spl_message.proofs.Histories.{cell_at-more, act_all-cond}
 use Rattle.spl_tables.specs.Memtables.{FrozenData, MemtableData}
 use Rattle.spl_state.specs.declared.actor.Actor.{Actor}
@@ -32,10 +31,7 @@ use Rattle.spl_state.specs.declared.reply.Reply.{Reply}
 use Rattle.spl_state.specs.declared.reply.Reply.TheVariants.{Placed, Sight}
 use Rattle.spl_descent.specs.Descents.{begun}
 use Rattle.spl_descent.specs.Sights.{OnSight}
-use Rattle.spl_pack.specs.Publishing.{AsksFor}
-use Rattle.spl_core.specs.declared.step.Step.{Step}
-use Rattle.spl_core.specs.declared.step.Step.TheVariants.{Publish}
-use Rattle.spl_core.specs.Standing.{StandsFor, Knows, put_called, begin_called}
+use Rattle.spl_core.specs.Standing.{StandsFor, put_called, begin_called}
 
 copies : (count at : ℕ) → slice_index_or (replicate count idle) at idle ≡ idle
 copies zero at = refl
@@ -179,9 +175,3 @@ module _ (rule : Rule) (tells : Bool) (old mid new : Whole) (actor : ℕ) (is_co
       let at_mid = stands_counted rule tells old mid new actor is_counted history stands in
       let same = subst (λ (w : Whole). StandsFor rule tells w history) (sym state) at_mid in
       subst (λ (h : History). StandsFor rule tells new h) (sym (append-nil history)) same
-
--- what the publisher of a branch knows holds where the step was counted
-pub asked : {B : Type 0} {table_of : B → Table} {rule : Rule} {tells : Bool} {old mid : Whole} {actor : ℕ} {step : Step B} {branch : Arc B} → mid ≡ refused old → step ≡ Publish branch → (tells ≡ true → Knows table_of rule old actor step) → tells ≡ true → AsksFor rule mid actor (table_of branch.value)
-asked {table_of = table_of} {rule = rule} {old = old} {actor = actor} {step = step} {branch = branch} is_counted is knows told =
-    let here : Knows table_of rule old actor (Publish branch) = subst (λ (s : Step _). Knows table_of rule old actor s) is (knows told) in
-    subst (λ (w : Whole). AsksFor rule w actor (table_of branch.value)) (sym is_counted) here

@@ -5,9 +5,10 @@ use Rattle.spl_state.specs.Frame.{refused}
 use Rattle.spl_state.specs.View.{branch_data}
 use Rattle.spl_state.specs.Whole.{Whole}
 use Rattle.spl_core.specs.declared.step.Step.{Step}
-use Rattle.spl_core.specs.Standing.{StandsFor, called}
+use Rattle.spl_pack.specs.Publishing.{AsksFor}
+use Rattle.spl_core.specs.Standing.{StandsFor, Knows, called}
 use Rattle.spl_core.specs.Steps.{IsStep, IsPut}
-use Rattle.spl_core.proofs.Standings.{others_framed, others_all, stands_framed, stands_put, stands_begin, asked}
+use Rattle.spl_core.proofs.Standings.{others_framed, others_all, stands_framed, stands_put, stands_begin}
 use Rattle.spl_core.proofs.engine.Core.step.Goals as goal
 
 pub returns-in-Put-clause-counted : goal.returns-in-Put-clause-counted
@@ -88,11 +89,11 @@ returns-in-Grant-clause-counted g c = c.grant.ensures.steps ∙ ap (λ (w : Whol
 
 pub returns-in-Publish-clause-stands : goal.returns-in-Publish-clause-stands
 returns-in-Publish-clause-stands g c = λ history stands.
-    let here = stands_framed (g.L.MergeLaw.rule c.args.self.now.law) _ _ _ c.publish.new.parts c.args.actor c.count.ensures.counted (λ drafts. c.publish.ensures.framed (g.L.MergeLaw.rule c.args.self.now.law) drafts (asked c.count.ensures.counted c.in-Publish.is c.requires.knows)) c.publish.ensures.places history stands in
+    let here = stands_framed (g.L.MergeLaw.rule c.args.self.now.law) _ _ _ c.publish.new.parts c.args.actor c.count.ensures.counted (λ drafts. c.publish.ensures.framed (g.L.MergeLaw.rule c.args.self.now.law) drafts (λ told. subst (λ (w : Whole). AsksFor (g.L.MergeLaw.rule c.args.self.now.law) w c.args.actor (g.B.Content.table c.in-Publish.branch.value)) (sym c.count.ensures.counted) (subst (λ (s : Step g.row.B.Denot). Knows g.B.Content.table (g.L.MergeLaw.rule c.args.self.now.law) c.args.self.now.parts c.args.actor s) c.in-Publish.is (c.requires.knows told)))) c.publish.ensures.places history stands in
     subst (λ (s : Step g.row.B.Denot). StandsFor (g.L.MergeLaw.rule c.args.self.now.law) g.B.Content.TELLS c.publish.new.parts (history ++ called c.args.actor s c.publish.result)) (sym c.in-Publish.is) here
 
 pub returns-in-Publish-clause-others : goal.returns-in-Publish-clause-others
-returns-in-Publish-clause-others g c = others_framed (g.L.MergeLaw.rule c.args.self.now.law) _ _ _ c.publish.new.parts c.args.actor c.count.ensures.counted (λ drafts. c.publish.ensures.framed (g.L.MergeLaw.rule c.args.self.now.law) drafts (asked c.count.ensures.counted c.in-Publish.is c.requires.knows))
+returns-in-Publish-clause-others g c = others_framed (g.L.MergeLaw.rule c.args.self.now.law) _ _ _ c.publish.new.parts c.args.actor c.count.ensures.counted (λ drafts. c.publish.ensures.framed (g.L.MergeLaw.rule c.args.self.now.law) drafts (λ told. subst (λ (w : Whole). AsksFor (g.L.MergeLaw.rule c.args.self.now.law) w c.args.actor (g.B.Content.table c.in-Publish.branch.value)) (sym c.count.ensures.counted) (subst (λ (s : Step g.row.B.Denot). Knows g.B.Content.table (g.L.MergeLaw.rule c.args.self.now.law) c.args.self.now.parts c.args.actor s) c.in-Publish.is (c.requires.knows told))))
 
 pub returns-in-Publish-clause-counted : goal.returns-in-Publish-clause-counted
 returns-in-Publish-clause-counted g c = c.publish.ensures.steps ∙ ap (λ (w : Whole). w.counters.steps) c.count.ensures.counted
