@@ -1,0 +1,7 @@
+//! The step by which an actor gives back all that it has, whatever it was in the midst of.
+#![tactic(auto)]
+
+mod job;
+mod step;
+
+pub use step::abandon;
