@@ -87,3 +87,8 @@ pub rising_front : (keys more : List (List ℕ)) → AreRising (keys ++ more) �
 unfolding IsStrictlySortedBy
 rising_front [] more order = tt
 rising_front (key ∷ keys) more order = (all_front (λ other. slice_cmp nat_cmp key other ≡ Less) keys more order.0, rising_front keys more order.1)
+
+-- one key rises
+pub one_rises : (key : List ℕ) → AreRising (key ∷ [])
+unfolding IsStrictlySortedBy
+one_rises key = (tt, tt)

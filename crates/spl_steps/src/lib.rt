@@ -1,15 +1,15 @@
-//! The steps of the core that touch one part of the state: puts, and the latches of the trunk.
+//! The steps of the core that touch one part of the state: puts, the latches of the trunk, and the end of a caller.
 //!
 //! Each step is one function. It says what it answers, by its causes in their one order, what it makes of the state, and
 //! what it leaves to everybody else.
 #![tactic(auto)]
 
+mod callers;
 mod latch;
 mod memory;
-mod retire;
 #[cfg(test)]
 mod tests;
 
+pub use callers::retire;
 pub use latch::{claim, lock, unlock};
 pub use memory::{put, rotate};
-pub use retire::retire;

@@ -2,7 +2,7 @@ ghost use Rattle.std.specs.Prelude.{◌≡◌, ℕ, ◌≤◌, ◌<◌, List, []
 ghost use Rattle.spl_message.specs.Table.{as_table};
 ghost use Rattle.spl_state.specs.Bounds.{AreBelow};
 
-use crate::{claim, lock, put, rotate, unlock};
+use crate::{claim, lock, put, retire, rotate, unlock};
 use spl_message::{Content, HashedKey, Key, Message, Newest};
 use spl_state::{Parts, Reply};
 use std::alloc::Global;
@@ -69,6 +69,9 @@ fn one_actor_claims_a_node_at_a_time(rt: HostRuntime) -> Result<(), Fail> {
     assert!(rt; matches!(unlock(&mut parts, 3, 0), Reply::Done));
     assert!(rt; matches!(unlock(&mut parts, 3, 0), Reply::Unfit { .. }));
     assert!(rt; matches!(claim(&mut parts, 4, 0), Reply::Done));
+    assert!(rt; matches!(retire(&mut parts, 4), Reply::Unfit { .. }));
+    assert!(rt; matches!(retire(&mut parts, 3), Reply::Retired { running: 0 }));
+    assert!(rt; matches!(retire(&mut parts, 3), Reply::Retired { running: 0 }));
     Ok(())
 }
 

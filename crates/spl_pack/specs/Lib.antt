@@ -1,0 +1,4 @@
+pub mod Granting
+pub mod Picking
+pub mod Publishing
+pub mod Incorporating
