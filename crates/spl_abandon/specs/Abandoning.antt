@@ -26,7 +26,8 @@ pub record HasAbandoned (old new : Whole) (actor : ℕ) : Type 0 where
   -- no bundle carries its mark
   pub nodes : new.nodes ≡ all_released old.nodes actor
   -- what its job named is named less often by that, and what is still named is the branch that it was
-  pub fewer : (number : ℕ) → counts new number + times number (named_by (actor_in old.actors actor)) ≡ counts old number
+  pub fewer : (number : ℕ)
+      → counts new number + times number (named_by (actor_in old.actors actor)) ≡ counts old number
   pub still : (number : ℕ) → 0 < counts new number → branches new number ≡ branches old number
   -- it is granted no extent, and every other actor those that it was
   pub extents : length new.owners ≡ length old.owners

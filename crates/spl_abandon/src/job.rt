@@ -1,4 +1,4 @@
-//! What is undone of a job that its actor gives up: the marks of its run, and the names that it gave to branches.
+//! What is undone of a job that its actor gives up: the marks of its run, and its names of branches.
 ghost use Rattle.std.specs.Prelude.{◌≡◌, ℕ, ◌<◌, ◌≤◌, List, ◌++◌};
 ghost use Rattle.spl_base.specs.declared.TheConstants.{ACTORS};
 ghost use Rattle.spl_extent.specs.Pool.{granted_to};
@@ -36,8 +36,10 @@ fn merges(actor: &Actor) -> bool
 
 /// Ends the names that the actor's job gives to branches: those of its inputs, and of what it published.
 pub(crate) fn end_names<B: Content>(refs: &mut Refs<B>, pool: &mut Pool, actor: &Actor)
-    requires accounted { (rest : List ℕ) × AreAccounted B.extents (named_by actor.now ++ rest) refs.old pool.old }
-    ensures accounted { (rest : List ℕ) → AreAccounted B.extents (named_by actor.now ++ rest) refs.old pool.old
+    requires accounted { (rest : List ℕ)
+        × AreAccounted B.extents (named_by actor.now ++ rest) refs.old pool.old }
+    ensures accounted { (rest : List ℕ)
+        → AreAccounted B.extents (named_by actor.now ++ rest) refs.old pool.old
         → AreAccounted B.extents rest refs.new pool.new }
     ensures granted { (other : ℕ) → granted_to pool.new other ≡ granted_to pool.old other }
     ensures branches { (other : ℕ) → 0 < count_at refs.new other
@@ -55,8 +57,10 @@ pub(crate) fn end_names<B: Content>(refs: &mut Refs<B>, pool: &mut Pool, actor: 
 
 /// Ends the name of a job's branch, where the job published it.
 fn end_draft<B: Content>(refs: &mut Refs<B>, pool: &mut Pool, published: bool, number: u64)
-    requires accounted { (rest : List ℕ) × AreAccounted B.extents (drafted number published ++ rest) refs.old pool.old }
-    ensures accounted { (rest : List ℕ) → AreAccounted B.extents (drafted number published ++ rest) refs.old pool.old
+    requires accounted { (rest : List ℕ)
+        × AreAccounted B.extents (drafted number published ++ rest) refs.old pool.old }
+    ensures accounted { (rest : List ℕ)
+        → AreAccounted B.extents (drafted number published ++ rest) refs.old pool.old
         → AreAccounted B.extents rest refs.new pool.new }
     ensures granted { (other : ℕ) → granted_to pool.new other ≡ granted_to pool.old other }
     ensures branches { (other : ℕ) → 0 < count_at refs.new other

@@ -3,5 +3,7 @@
 
 mod job;
 mod step;
+#[cfg(test)]
+mod tests;
 
 pub use step::abandon;

@@ -10,10 +10,10 @@ use spl_base::ACTORS;
 use spl_message::Content;
 use spl_state::{Parts, Reply};
 
-/// Takes back all that the actor has: its descent, its latches, its job with the marks of its run and the branch
-/// that it published, and the extents that it was granted. A memtable that it picked can be picked again.
+/// Takes back all that the actor has: its descent, its latches, the extents that it was granted, and its job with
+/// the marks of its run and the branch that it published. A memtable that it picked can be picked again.
 ///
-/// It takes no memory, and where the actor merges nothing as many steps as there are things to take back.
+/// It takes no memory. Only an actor that merges costs a pass over the nodes.
 pub fn abandon<B: Content>(parts: &mut Parts<B>, actor: u32) -> Reply<B>
     requires known { actor < ACTORS }
     ensures answer { result ≡ Reply.Done }
