@@ -6,13 +6,16 @@ ghost use Rattle.spl_message.specs.Rule.{Rule};
 ghost use Rattle.spl_state.specs.Frame.{refused};
 ghost use Rattle.spl_state.specs.Sight.{KeepsSight};
 ghost use Rattle.spl_state.specs.Sound.{AreDrafts, IsEmpty};
-ghost use Rattle.spl_core.specs.Standing.{StandsFor, called};
+ghost use Rattle.spl_state.specs.View.{branch_data};
+ghost use Rattle.spl_core.specs.Standing.{StandsFor, Knows, called};
 ghost use Rattle.spl_core.specs.Steps.{IsStep};
 
 use crate::step::Step;
 use spl_base::{ACTORS, NoMemory};
+use spl_descent::{begin, end, move_down};
 use spl_extent::EXTENTS;
 use spl_message::{Content, MergeLaw};
+use spl_pack::{grant, incorporate, pick_frozen, publish};
 use spl_state::{Parts, Reply};
 use spl_steps::{claim, lock, put, retire, rotate, unlock};
 use std::alloc::Global;
@@ -22,6 +25,7 @@ use std::alloc::Global;
 pub struct Core<B: Content, L: MergeLaw> {
     parts: Parts<B>,
     law: L,
+    alloc: Global,
 }
 
 impl<B: Content, L: MergeLaw> Core<B, L> {
@@ -36,17 +40,21 @@ impl<B: Content, L: MergeLaw> Core<B, L> {
         Ok(Core {
             parts: Parts::new(alloc, extents, callers)?,
             law,
+            alloc,
         })
     }
 
     /// Makes the actor's step, and counts it, also where it is refused.
-    pub fn step(&mut self, actor: u32, step: Step) -> Reply<B>
+    pub fn step(&mut self, actor: u32, step: Step<B>) -> Reply<B>
         requires known { actor < ACTORS }
         requires steps { self.old.parts.counters.steps < 2 ^ 46 }
         requires ready { L.ready self.old.law }
+
+        // What the actor knows from its sight.
+        requires knows { B.TELLS ≡ true → Knows B.table (L.rule self.old.law) self.old.parts actor step }
         ensures law { self.new.law ≡ self.old.law }
         ensures counted { self.new.parts.counters.steps ≡ self.old.parts.counters.steps + 1 }
-        ensures step { IsStep (L.rule self.old.law) (refused self.old.parts) actor step result self.new.parts }
+        ensures step { IsStep B.number (branch_data B.extents B.entries B.cuts B.table) (L.rule self.old.law) (refused self.old.parts) actor step result self.new.parts }
         ensures stands { (history : History) → StandsFor (L.rule self.old.law) B.TELLS self.old.parts history
             → StandsFor (L.rule self.old.law) B.TELLS self.new.parts (history ++ called actor step result) }
         ensures others { (B.TELLS ≡ true → AreDrafts (L.rule self.old.law) self.old.parts) → (other : ℕ) → other < ACTORS → other ≢ actor
@@ -56,9 +64,16 @@ impl<B: Content, L: MergeLaw> Core<B, L> {
         match step {
             Step::Put { key, message } => put(&mut self.parts, &self.law, &key, message),
             Step::Rotate => rotate(&mut self.parts, actor),
+            Step::Begin { span } => begin(self.alloc, &mut self.parts, actor, &span),
+            Step::MoveDown => move_down(self.alloc, &mut self.parts, actor),
+            Step::End => end(&mut self.parts, actor),
             Step::Claim { node } => claim(&mut self.parts, actor, node),
             Step::Lock { node } => lock(&mut self.parts, actor, node),
             Step::Unlock { node } => unlock(&mut self.parts, actor, node),
+            Step::PickFrozen => pick_frozen(&mut self.parts, actor),
+            Step::Grant => grant(&mut self.parts, actor),
+            Step::Publish { branch } => publish(&mut self.parts, actor, branch),
+            Step::Incorporate => incorporate(&mut self.parts, actor),
             Step::Retire => retire(&mut self.parts, actor),
         }
     }

@@ -25,6 +25,7 @@ pub fn begin<B: Content>(alloc: Global, parts: &mut Parts<B>, actor: u32, span: 
     ensures answer { Answers (begin_refusal parts.old actor) result }
     ensures state { OnSight result (λ sight. parts.new ≡ begun parts.old actor span.now)
         (parts.new ≡ parts.old) }
+    ensures steps { parts.new.counters.steps ≡ parts.old.counters.steps }
 
     // What the sight has, and what that says of its keys.
     ensures sight { IfSight result (IsSightOf B.number (branch_data B.extents B.entries B.cuts B.table)

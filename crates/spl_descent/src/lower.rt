@@ -25,6 +25,7 @@ pub fn move_down<B: Content>(alloc: Global, parts: &mut Parts<B>, actor: u32) ->
     requires { actor < ACTORS }
     ensures answer { Answers (move_refusal parts.old actor) result }
     ensures state { OnSight result (λ sight. parts.new ≡ moved_down parts.old actor) (parts.new ≡ parts.old) }
+    ensures counters { parts.new.counters ≡ parts.old.counters }
 
     // What the sight has, and what that says of its keys.
     ensures sight { IfSome (actor_in parts.old.actors actor).descent (λ descent.
