@@ -12,6 +12,7 @@ use Rattle.spl_tables.specs.Memtables.{first_unpicked, tables_of}
 use Rattle.spl_state.specs.Actor.{actor_in}
 use Rattle.spl_state.specs.Reply.{state_of}
 use Rattle.spl_state.specs.Whole.{BranchData, Whole}
+use Rattle.spl_abandon.specs.Abandoning.{HasAbandoned}
 use Rattle.spl_descent.specs.Descents.{first_descent, next_descent, begin_refusal, begun, move_refusal, moved_down, end_answer, ended}
 use Rattle.spl_descent.specs.Sights.{IsSightOf, OnSight, IfSight, Answers}
 use Rattle.spl_pack.specs.Granting.{extent_in, grant_answer, Grants}
@@ -22,7 +23,7 @@ use Rattle.spl_steps.specs.Latching.{claim_answer, lock_answer, unlock_answer, g
 use Rattle.spl_steps.specs.Memory.{HasPut, has_rotated}
 use Rattle.spl_steps.specs.Retiring.{retire_answer, after_retire}
 use Rattle.spl_core.specs.declared.step.Step.{Step}
-use Rattle.spl_core.specs.declared.step.Step.TheVariants.{Put, Rotate, Begin, MoveDown, End, Claim, Lock, Unlock, PickFrozen, Grant, Publish, Incorporate, Retire}
+use Rattle.spl_core.specs.declared.step.Step.TheVariants.{Put, Rotate, Begin, MoveDown, End, Claim, Lock, Unlock, PickFrozen, Grant, Publish, Incorporate, Abandon, Retire}
 
 module _ {B : Type 0} where
   pub record IsPut (rule : Rule) (old : Whole) (key : List ℕ) (message : Message) (reply : Reply B) (new : Whole) : Type 0 where
@@ -91,4 +92,5 @@ module _ {B : Type 0} where
   IsStep number_of data_of rule old actor Grant reply new = IsGrant old actor reply new
   IsStep number_of data_of rule old actor (Publish branch) reply new = IsPublication (data_of branch.value) old actor (number_of branch.value) reply new
   IsStep number_of data_of rule old actor Incorporate reply new = IsIncorporation old actor reply new
+  IsStep number_of data_of rule old actor Abandon reply new = (reply ≡ Done) × HasAbandoned old new actor
   IsStep number_of data_of rule old actor Retire reply new = (reply ≡ retire_answer old actor) × (new ≡ after_retire old actor)

@@ -11,6 +11,7 @@ ghost use Rattle.spl_core.specs.Standing.{StandsFor, Knows, called};
 ghost use Rattle.spl_core.specs.Steps.{IsStep};
 
 use crate::step::Step;
+use spl_abandon::abandon;
 use spl_base::{ACTORS, NoMemory};
 use spl_descent::{begin, end, move_down};
 use spl_extent::EXTENTS;
@@ -74,6 +75,7 @@ impl<B: Content, L: MergeLaw> Core<B, L> {
             Step::Grant => grant(&mut self.parts, actor),
             Step::Publish { branch } => publish(&mut self.parts, actor, branch),
             Step::Incorporate => incorporate(&mut self.parts, actor),
+            Step::Abandon => abandon(&mut self.parts, actor),
             Step::Retire => retire(&mut self.parts, actor),
         }
     }

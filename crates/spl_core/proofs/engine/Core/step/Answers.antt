@@ -7,7 +7,7 @@ use Rattle.spl_state.specs.Whole.{Whole}
 use Rattle.spl_core.specs.declared.step.Step.{Step}
 use Rattle.spl_pack.specs.Publishing.{AsksFor}
 use Rattle.spl_core.specs.Standing.{StandsFor, Knows, called}
-use Rattle.spl_core.specs.Steps.{IsStep, IsPut}
+use Rattle.spl_core.specs.Steps.{IsStep, IsPut, IsPick}
 use Rattle.spl_core.proofs.Standings.{others_framed, others_all, stands_framed, stands_put, stands_begin}
 use Rattle.spl_core.proofs.engine.Core.step.Goals as goal
 
@@ -141,3 +141,24 @@ returns-in-Begin-clause-others g c = others_framed (g.L.MergeLaw.rule c.args.sel
 
 pub returns-in-Begin-clause-counted : goal.returns-in-Begin-clause-counted
 returns-in-Begin-clause-counted g c = c.begin.ensures.steps ∙ ap (λ (w : Whole). w.counters.steps) c.count.ensures.counted
+
+pub returns-in-Abandon-clause-stands : goal.returns-in-Abandon-clause-stands
+returns-in-Abandon-clause-stands g c = λ history stands.
+    let here = stands_framed (g.L.MergeLaw.rule c.args.self.now.law) _ _ _ c.abandon.new.parts c.args.actor c.count.ensures.counted (c.abandon.ensures.framed (g.L.MergeLaw.rule c.args.self.now.law)) (ap (λ (n : Counters). n.places) c.abandon.ensures.done.counters) history stands in
+    subst (λ (s : Step g.row.B.Denot). StandsFor (g.L.MergeLaw.rule c.args.self.now.law) g.B.Content.TELLS c.abandon.new.parts (history ++ called c.args.actor s c.abandon.result)) (sym c.in-Abandon.is) here
+
+pub returns-in-Abandon-clause-others : goal.returns-in-Abandon-clause-others
+returns-in-Abandon-clause-others g c = others_framed (g.L.MergeLaw.rule c.args.self.now.law) _ _ _ c.abandon.new.parts c.args.actor c.count.ensures.counted (c.abandon.ensures.framed (g.L.MergeLaw.rule c.args.self.now.law))
+
+pub returns-in-Abandon-clause-counted : goal.returns-in-Abandon-clause-counted
+returns-in-Abandon-clause-counted g c = ap (λ (n : Counters). n.steps) c.abandon.ensures.done.counters ∙ ap (λ (w : Whole). w.counters.steps) c.count.ensures.counted
+
+pub returns-in-PickFrozen-clause-step : goal.returns-in-PickFrozen-clause-step
+returns-in-PickFrozen-clause-step g c =
+    let pick : IsPick c.count.new.self c.args.actor c.pick_frozen.result c.pick_frozen.new.parts = record {
+      answer = c.pick_frozen.ensures.answer;
+      done = c.pick_frozen.ensures.done;
+      refused = c.pick_frozen.ensures.refused;
+    } in
+    let counted = subst (λ (w : Whole). IsPick w c.args.actor c.pick_frozen.result c.pick_frozen.new.parts) c.count.ensures.counted pick in
+    subst (λ (s : Step g.row.B.Denot). IsStep g.B.Content.number (branch_data g.B.Content.extents g.B.Content.entries g.B.Content.cuts g.B.Content.table) (g.L.MergeLaw.rule c.args.self.now.law) (refused c.args.self.now.parts) c.args.actor s c.pick_frozen.result c.pick_frozen.new.parts) (sym c.in-PickFrozen.is) counted
