@@ -45,6 +45,13 @@ impl<B: Content, L: MergeLaw> Core<B, L> {
         })
     }
 
+    /// How many steps were made, refused ones too.
+    pub fn steps(&self) -> u64
+        ensures { result ≡ self.now.parts.counters.steps }
+    {
+        self.parts.counters.steps
+    }
+
     /// Makes the actor's step, and counts it, also where it is refused.
     pub fn step(&mut self, actor: u32, step: Step<B>) -> Reply<B>
         requires known { actor < ACTORS }

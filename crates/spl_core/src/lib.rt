@@ -6,6 +6,8 @@
 
 mod engine;
 mod step;
+#[cfg(test)]
+mod tests;
 
 pub use engine::Core;
 pub use step::Step;
