@@ -1,5 +1,5 @@
 -- An incorporation keeps the invariant, and what everybody relies on.
-use Rattle.std.proofs.Common.{◌≡◌, ◌≢◌, ℕ, zero, suc, ◌+◌, ◌<◌, ◌≤◌, Bool, true, false, cond, List, [], ◌∷◌, ◌++◌, Option, Some, None, length, map, flat_map, drop, set, get_or, slice_get, refl, sym, ap, subst, ◌∙◌, inl, inr, arith}
+use Rattle.std.proofs.Common.{◌≡◌, ◌≢◌, ℕ, zero, suc, ◌<◌, ◌≤◌, Bool, true, false, cond, List, [], ◌∷◌, ◌++◌, Option, Some, None, length, map, flat_map, drop, set, slice_get, refl, sym, ap, subst, ◌∙◌, inl, inr, arith}
 use Rattle.std.specs.Prelude.{All, AllPairs, Result, Ok, Err, is_err, IsOk, ◌↔◌, nat_eq, nat_lt}
 use Rattle.std.proofs.lemmas.Bool.{cases_eq, cases_lt, false≢true, eqb-true}
 use Rattle.std.proofs.lemmas.Bool.Decides.{nat_tests}
@@ -8,7 +8,6 @@ use Rattle.std.proofs.lemmas.List.Elements.{All-set, All-get_or}
 use Rattle.std.proofs.lemmas.Option.{slice_get-get_or, slice_get_within, same_Some}
 use Rattle.spl_base.specs.declared.TheConstants.{ACTORS}
 use Rattle.spl_message.specs.Rule.{Rule}
-use Rattle.spl_message.specs.Span.{InSpan}
 use Rattle.spl_message.specs.Table.{Table, IsTable, key_count}
 use Rattle.spl_message.specs.declared.span.Span.{Span}
 use Rattle.spl_holds.specs.declared.grip.Grip.{Grip}
@@ -17,7 +16,7 @@ use Rattle.spl_holds.specs.Grip.{is_write}
 use Rattle.spl_holds.specs.Latch.{IsLatched}
 use Rattle.spl_holds.specs.Holds.{grip_of}
 use Rattle.spl_node.specs.Node.{NodeData}
-use Rattle.spl_node.specs.Steps.{fresh, all_keys}
+use Rattle.spl_node.specs.Steps.{fresh}
 use Rattle.spl_trunk.specs.Trunk.{node_at}
 use Rattle.spl_trunk.specs.Tree.{means, sub, times, named, IsShaped}
 use Rattle.spl_trunk.proofs.Counts.{times-append}
@@ -28,15 +27,15 @@ use Rattle.spl_state.specs.declared.descent.Descent.{Descent}
 use Rattle.spl_state.specs.declared.job.Job.{Job}
 use Rattle.spl_state.specs.declared.job.Job.TheVariants.{Pack, Merge}
 use Rattle.spl_state.specs.declared.actor.Actor.{Actor}
-use Rattle.spl_state.specs.Actor.{idle, actor_in, with_job}
-use Rattle.spl_state.specs.Actors.{IsActor, IsOnWay, IsDescending, LiesUnder, IsOf, IsPicked, IsAtWork, IsWorking, JobsDiffer, Packs, ArePicked, HasTable}
+use Rattle.spl_state.specs.Actor.{actor_in, with_job}
+use Rattle.spl_state.specs.Actors.{IsActor, IsOnWay, IsDescending, LiesUnder, IsOf, IsPicked, IsAtWork, JobsDiffer, Packs, ArePicked, HasTable}
 use Rattle.spl_state.specs.Bounds.{AreBelow, AreBounded}
-use Rattle.spl_state.specs.Extents.{number_of, named_by, inputs_of, draft_of, mentioned, AccountsForExtents}
+use Rattle.spl_state.specs.Extents.{named_by, inputs_of, draft_of, mentioned, AccountsForExtents}
 use Rattle.spl_state.specs.Frame.{IsFramed}
 use Rattle.spl_state.specs.Runs.{IsInRun}
-use Rattle.spl_state.specs.Sight.{KeepsSight, SeesSource, SeesNode, KeepsNode, tables_under, split_key}
+use Rattle.spl_state.specs.Sight.{SeesSource, SeesNode, KeepsNode, tables_under, split_key}
 use Rattle.spl_state.specs.Sound.{IsSound, AreDrafts, meaning}
-use Rattle.spl_state.specs.Whole.{BranchData, Whole, branches, counts, table_in}
+use Rattle.spl_state.specs.Whole.{Whole, branches, counts, table_in}
 use Rattle.spl_state.specs.declared.reply.Reply.{Reply}
 use Rattle.spl_state.specs.declared.reply.Reply.TheVariants as reply
 use Rattle.spl_state.proofs.Frames.{unchanged_framed}

@@ -1,17 +1,15 @@
 -- A pick keeps the invariant, and what everybody relies on.
-use Rattle.std.proofs.Common.{◌≡◌, ◌≢◌, ℕ, ◌+◌, ◌<◌, ◌≤◌, Bool, true, false, cond, List, [], ◌∷◌, ◌++◌, Option, Some, None, length, map, set, get_or, slice_get, refl, sym, ap, subst, ◌∙◌, inl, inr, arith}
-use Rattle.std.specs.Prelude.{All, AllPairs, IsSome, IsNone, IfSome, is_none, is_some, ◌||◌, ◌↔◌}
+use Rattle.std.proofs.Common.{◌≡◌, ℕ, ◌+◌, ◌<◌, ◌≤◌, Bool, true, false, cond, List, [], ◌∷◌, ◌++◌, Option, Some, None, length, map, set, get_or, slice_get, refl, sym, ap, subst, ◌∙◌, inl, inr, arith}
+use Rattle.std.specs.Prelude.{All, IsSome, IsNone, IfSome, is_none, is_some, ◌||◌, ◌↔◌}
 use Rattle.std.proofs.lemmas.Bool.{cases_eq, cases_lt, false≢true}
 use Rattle.std.proofs.lemmas.List.{length-set, get_or-set_same, get_or-set_other, get_or_default}
 use Rattle.std.proofs.lemmas.List.Quantifiers.{position-Some}
 use Rattle.std.proofs.lemmas.Option.{get_or_from_slice_get, slice_get-get_or, slice_get_within, same_Some}
 use Rattle.std.proofs.Math.Seq.{map-set_same}
 use Rattle.spl_base.specs.declared.TheConstants.{ACTORS}
-use Rattle.spl_message.specs.Cell.{Cell}
 use Rattle.spl_message.specs.Rule.{Rule}
-use Rattle.spl_message.specs.Table.{Table, IsTable, as_table, key_count}
-use Rattle.spl_holds.specs.Holds.{grip_of}
-use Rattle.spl_tables.specs.Memtables.{FrozenData, MemtableData, AreMemtables, first_unpicked, frozen_at, taken_by, picked_by, tables_of}
+use Rattle.spl_message.specs.Table.{Table, IsTable, key_count}
+use Rattle.spl_tables.specs.Memtables.{FrozenData, MemtableData, AreMemtables, first_unpicked, frozen_at, taken_by, picked_by}
 use Rattle.spl_node.specs.Node.{NodeData}
 use Rattle.spl_trunk.specs.Trunk.{node_at}
 use Rattle.spl_trunk.specs.Tree.{means, times}
@@ -20,14 +18,14 @@ use Rattle.spl_state.specs.declared.job.Job.{Job}
 use Rattle.spl_state.specs.declared.job.Job.TheVariants.{Pack, Merge}
 use Rattle.spl_state.specs.declared.actor.Actor.{Actor}
 use Rattle.spl_state.specs.declared.counters.Counters.{Counters}
-use Rattle.spl_state.specs.Actor.{idle, actor_in, with_job}
-use Rattle.spl_state.specs.Actors.{IsActor, IsOnWay, IsAtWork, IsWorking, JobsDiffer, Packs, ArePicked, HasTable}
+use Rattle.spl_state.specs.Actor.{actor_in, with_job}
+use Rattle.spl_state.specs.Actors.{IsActor, IsOnWay, IsAtWork, JobsDiffer, Packs, ArePicked, HasTable}
 use Rattle.spl_state.specs.Bounds.{AreBelow, AreBounded}
 use Rattle.spl_state.specs.Extents.{number_of, named_by, mentioned, AccountsForExtents}
 use Rattle.spl_state.specs.Frame.{IsFramed}
-use Rattle.spl_state.specs.Runs.{AreInRuns, IsInRun, Stands}
-use Rattle.spl_state.specs.Sight.{KeepsSight, SeesSource}
-use Rattle.spl_state.specs.Sound.{IsSound, AreDrafts, meaning}
+use Rattle.spl_state.specs.Runs.{IsInRun}
+use Rattle.spl_state.specs.Sight.{SeesSource}
+use Rattle.spl_state.specs.Sound.{IsSound, AreDrafts}
 use Rattle.spl_state.specs.Whole.{BranchData, Whole, branches, counts, table_in}
 use Rattle.spl_state.specs.declared.reply.Reply.{Reply}
 use Rattle.spl_state.specs.declared.reply.Reply.TheVariants as reply

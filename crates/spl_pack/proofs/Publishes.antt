@@ -1,8 +1,8 @@
 -- A publication keeps the invariant, and what everybody relies on.
-use Rattle.std.proofs.Common.{◌≡◌, ◌≢◌, ℕ, zero, suc, ◌+◌, ◌<◌, ◌≤◌, Bool, true, false, cond, nat_eq, List, [], ◌∷◌, ◌++◌, Option, Some, None, length, map, flat_map, set, get_or, slice_get, refl, sym, ap, subst, ◌∙◌, inl, inr, arith}
-use Rattle.std.specs.Prelude.{All, IsSome, IfSome, unwrap_or, Contains, ◌↔◌}
+use Rattle.std.proofs.Common.{◌≡◌, ◌≢◌, ℕ, zero, suc, ◌+◌, ◌<◌, Bool, true, false, List, [], ◌∷◌, ◌++◌, Option, Some, None, map, flat_map, set, refl, sym, ap, subst, ◌∙◌, inl, inr, arith}
+use Rattle.std.specs.Prelude.{IsSome, IfSome, unwrap_or, ◌↔◌}
 use Rattle.std.specs.Option.{option_map}
-use Rattle.std.proofs.lemmas.Bool.{cases_eq, cases_lt, false≢true}
+use Rattle.std.proofs.lemmas.Bool.{cases_eq, false≢true}
 use Rattle.std.proofs.lemmas.Bool.Decides.{nat_tests}
 use Rattle.std.proofs.lemmas.List.{length-set}
 use Rattle.std.proofs.lemmas.Option.{same_Some}
@@ -12,34 +12,32 @@ use Rattle.spl_message.specs.Message.{act_all}
 use Rattle.spl_message.specs.Rule.{Rule}
 use Rattle.spl_message.specs.Table.{Table, chain, part_of, IsMerged}
 use Rattle.spl_numbers.specs.Numbers.{has, ListsEach}
-use Rattle.spl_bundle.specs.Numbered.{Numbered}
 use Rattle.spl_extent.specs.declared.owner.Owner.{Owner}
 use Rattle.spl_extent.specs.Pool.{granted_to}
-use Rattle.spl_holds.specs.Holds.{grip_of}
-use Rattle.spl_node.specs.Node.{NodeData, pivot_at}
+use Rattle.spl_node.specs.Node.{pivot_at}
 use Rattle.spl_trunk.specs.Trunk.{node_at}
-use Rattle.spl_trunk.specs.Tree.{means, sub, times, named}
+use Rattle.spl_trunk.specs.Tree.{times, named}
 use Rattle.spl_trunk.proofs.Counts.{times-append, times_one, times_itself}
-use Rattle.spl_refs.specs.Refs.{Published, held_at, branch_at, count_at, SetsAt}
-use Rattle.spl_tables.specs.Memtables.{FrozenData, tables_of}
+use Rattle.spl_refs.specs.Refs.{Published, held_at, branch_at, SetsAt}
+use Rattle.spl_tables.specs.Memtables.{tables_of}
 use Rattle.spl_state.specs.declared.descent.Descent.{Descent}
 use Rattle.spl_state.specs.declared.job.Job.{Job}
 use Rattle.spl_state.specs.declared.job.Job.TheVariants.{Pack, Merge}
 use Rattle.spl_state.specs.declared.job.Run.{Run}
 use Rattle.spl_state.specs.declared.actor.Actor.{Actor}
 use Rattle.spl_state.specs.Actor.{idle, actor_in, with_draft}
-use Rattle.spl_state.specs.Actors.{IsActor, IsOnWay, IsOf, IsAtWork, IsWorking, JobsDiffer, Packs, ArePicked, HasTable, pivot_from}
+use Rattle.spl_state.specs.Actors.{IsActor, IsOnWay, IsAtWork, IsWorking, JobsDiffer, Packs, ArePicked, HasTable, pivot_from}
 use Rattle.spl_state.specs.Bounds.{AreBounded}
 use Rattle.spl_state.specs.Extents.{number_of, inputs_of, draft_of, named_by, mentioned, held_by, AccountsForExtents}
 use Rattle.spl_state.specs.Frame.{IsFramed}
 use Rattle.spl_state.specs.Runs.{AreInRuns, IsInRun}
-use Rattle.spl_state.specs.Sight.{KeepsSight, SeesSource, SeesNode, KeepsNode}
-use Rattle.spl_state.specs.Sound.{IsSound, AreDrafts, meaning}
+use Rattle.spl_state.specs.Sight.{SeesSource, SeesNode, KeepsNode}
+use Rattle.spl_state.specs.Sound.{IsSound, AreDrafts}
 use Rattle.spl_state.specs.Whole.{BranchData, Whole, branches, counts, table_in, table_or}
 use Rattle.spl_pack.specs.Publishing.{MayPublish, Publishes, held_all, job_number, IsAskedFor, AsksFor}
 use Rattle.spl_state.proofs.Frames.{unchanged_framed}
 use Rattle.spl_state.proofs.Views.{seen, all_seen, held_seen}
-use Rattle.spl_pack.proofs.Replaced.{other_actor, this_actor, each_actor, times-actor, working, known_of}
+use Rattle.spl_pack.proofs.Replaced.{other_actor, each_actor, times-actor, working, known_of}
 use Rattle.spl_pack.proofs.Owners.{others_granted, none_granted, branch_holds, others_hold}
 use Rattle.spl_pack.proofs.Named.{same_map, same_live, sub_agrees, node_named, stands_in, same_split}
 

@@ -1,5 +1,5 @@
 -- What a pick answers, and what it makes of the state.
-use Rattle.std.specs.Prelude.{ℕ, ◌+◌, ◌||◌, Bool, if◌then◌else◌, is_some, Option, Some, None, slice_set}
+use Rattle.std.specs.Prelude.{◌≡◌, ℕ, ◌+◌, ◌||◌, Bool, false, if◌then◌else◌, is_some, Option, Some, None, IsSome, slice_set}
 use Rattle.spl_tables.specs.Memtables.{first_unpicked, frozen_at, picked_by}
 use Rattle.spl_state.specs.declared.job.Job.TheVariants.{Pack}
 use Rattle.spl_state.specs.declared.reply.Reply.{Reply}
@@ -23,6 +23,11 @@ module _ {B : Type 0} where
   pick_answer whole actor =
       if is_busy (actor_in whole.actors actor) then Unfit (state_of whole actor)
       else pick_of whole (first_unpicked whole.tables.frozen)
+
+-- the actor neither descends nor works, and there is a frozen memtable that nobody picked
+pub record MayPick (whole : Whole) (actor : ℕ) : Type 0 where
+  pub idle : is_busy (actor_in whole.actors actor) ≡ false
+  pub unpicked : IsSome (first_unpicked whole.tables.frozen)
 
 -- the frozen memtable at the position is the actor's, whose job is to pack it into a branch with the next number
 abbrev pub picked_at : Whole → ℕ → ℕ → Whole

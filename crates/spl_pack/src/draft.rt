@@ -28,7 +28,7 @@ const ROOT: u32 = 0;
 pub fn publish<B: Content>(parts: &mut Parts<B>, actor: u32, branch: Arc<B>) -> Reply<B>
     requires known { actor < ACTORS }
     ensures unfit { (result ≡ Reply.Unfit (state_of parts.old actor))
-        ↔ (MayPublish parts.old actor (B.number branch.value) (B.extents branch.value) → ⊥) }
+        ↔ ¬ (MayPublish parts.old actor (B.number branch.value) (B.extents branch.value)) }
     ensures answer { MayPublish parts.old actor (B.number branch.value) (B.extents branch.value)
         → result ≢ Reply.NoMemory → result ≡ Reply.Done }
     ensures done { result ≡ Reply.Done → Publishes parts.old parts.new actor (B.number branch.value)

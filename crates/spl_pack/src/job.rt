@@ -1,12 +1,11 @@
 //! The begin of a job: the memtable that it packs, and the extents that it writes.
-ghost use Rattle.std.specs.Prelude.{◌≡◌, ◌≢◌, ℕ, ◌<◌, Some, true, false};
+ghost use Rattle.std.specs.Prelude.{◌≡◌, ◌≢◌, ℕ, ◌<◌, Some, true};
 ghost use Rattle.spl_base.specs.declared.TheConstants.{ACTORS};
 ghost use Rattle.spl_message.specs.Rule.{Rule};
 ghost use Rattle.spl_message.specs.Table.{Table};
 ghost use Rattle.spl_tables.specs.Memtables.{first_unpicked};
 ghost use Rattle.spl_pack.specs.Granting.{grant_answer, extent_in, Grants};
-ghost use Rattle.spl_pack.specs.Picking.{is_busy, pick_answer, picked_at};
-ghost use Rattle.spl_state.specs.Actor.{actor_in};
+ghost use Rattle.spl_pack.specs.Picking.{MayPick, pick_answer, picked_at};
 ghost use Rattle.spl_state.specs.Bounds.{AreBelow};
 ghost use Rattle.spl_state.specs.Frame.{IsFramed};
 ghost use Rattle.spl_state.specs.Sound.{AreDrafts};
@@ -20,7 +19,7 @@ pub fn pick_frozen<B: Content>(parts: &mut Parts<B>, actor: u32) -> Reply<B>
     requires known { actor < ACTORS }
     requires fresh { AreBelow parts.old.nodes parts.old.tables parts.old.counters }
     ensures answer { result ≢ Reply.NoMemory → result ≡ pick_answer parts.old actor }
-    ensures memory { result ≡ Reply.NoMemory → is_busy (actor_in parts.old.actors actor) ≡ false }
+    ensures memory { result ≡ Reply.NoMemory → MayPick parts.old actor }
     ensures done { (position number : ℕ) (table : Table) → first_unpicked parts.old.tables.frozen ≡ Some position
         → result ≡ Reply.Picked number table → parts.new ≡ picked_at parts.old actor position }
     ensures refused { ((number : ℕ) (table : Table) → result ≢ Reply.Picked number table) → parts.new ≡ parts.old }

@@ -1,4 +1,4 @@
-use Rattle.std.proofs.Common.{◌≡◌, refl, zero-add, arith, ◌<◌, ◌≤◌, length}
+use Rattle.std.proofs.Common.{refl, zero-add}
 use Rattle.spl_pack.proofs.Owners.{next_granted, passes_next, all_passed}
 use Rattle.spl_pack.proofs.draft.hold_all.Goals as goal
 

@@ -1,4 +1,4 @@
-use Rattle.std.proofs.Common.{rules, arith, ◌≡◌, None, Some, true, false, sym, subst, length}
+use Rattle.std.proofs.Common.{rules, ◌≡◌, None, Some, true, false, sym, subst, length}
 use Rattle.std.specs.Prelude.{is_err, nat_lt}
 use Rattle.spl_trunk.specs.Trunk.{node_at}
 use Rattle.spl_state.specs.Bounds.{AreBelow}

@@ -1,5 +1,4 @@
-use Rattle.std.proofs.Common.{rules, ◌≡◌, false, Some, List, Bool, ℕ, sym, subst}
-use Rattle.std.specs.Prelude.{IsTrue}
+use Rattle.std.proofs.Common.{rules, ◌≡◌, false, Some, List, ℕ, sym, subst}
 use Rattle.spl_numbers.specs.Numbers.{ListsEach}
 use Rattle.spl_extent.specs.Pool.{granted_to}
 use Rattle.spl_state.specs.Actor.{actor_in}

@@ -1,4 +1,4 @@
-use Rattle.std.proofs.Common.{rules, ◌≡◌, ℕ, List, Bool, true, false, sym, subst, ap, ◌∙◌}
+use Rattle.std.proofs.Common.{rules, ◌≡◌, ℕ, List, true, false, sym, subst, ap, ◌∙◌}
 use Rattle.std.specs.Prelude.{is_err}
 use Rattle.spl_numbers.specs.Numbers.{ListsEach}
 use Rattle.spl_extent.specs.Pool.{granted_to}

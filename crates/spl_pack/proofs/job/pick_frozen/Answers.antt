@@ -1,10 +1,10 @@
-use Rattle.std.proofs.Common.{rules, ◌≡◌, false, Some, refl, sym, subst, ap, ◌∙◌, Option}
+use Rattle.std.proofs.Common.{rules, ◌≡◌, false, refl, sym, subst, ap, Option}
 use Rattle.std.specs.Prelude.{is_some}
 use Rattle.spl_state.specs.Actor.{actor_in}
 use Rattle.spl_state.specs.Bounds.{AreBelow}
 use Rattle.spl_state.specs.Whole.{Whole}
 use Rattle.spl_tables.specs.declared.frozen_table.Picked.{Picked}
-use Rattle.spl_pack.specs.Picking.{is_busy}
+use Rattle.spl_pack.specs.Picking.{MayPick}
 use Rattle.spl_pack.proofs.Picks.{taken_of, idle_of, pick_sound, pick_framed, pick_done, pick_answers, no_pick_framed}
 use Rattle.spl_pack.proofs.job.pick_frozen.Goals as goal
 
@@ -20,7 +20,7 @@ pub returns-in-Err-clause-memory : goal.returns-in-Err-clause-memory
 returns-in-Err-clause-memory g c = λ is.
     let no_way : is_some (actor_in c.parts.inside.actors c.args.actor).descent ≡ false = search rules in
     let no_work : is_some (actor_in c.parts.inside.actors c.args.actor).job ≡ false = search rules in
-    subst (λ (w : Whole). is_busy (actor_in w.actors c.args.actor) ≡ false) c.parts.view_is (idle_of (actor_in c.parts.inside.actors c.args.actor) no_way no_work)
+    subst (λ (w : Whole). MayPick w c.args.actor) c.parts.view_is (record { idle = idle_of (actor_in c.parts.inside.actors c.args.actor) no_way no_work; unpicked = c.in-Err.ensures.memory })
 
 pub returns-in-Ok-None-clause-framed : goal.returns-in-Ok-None-clause-framed
 returns-in-Ok-None-clause-framed g c = λ rule drafts.
