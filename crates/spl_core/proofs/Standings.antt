@@ -11,6 +11,7 @@ use Rattle.spl_message.specs.Cell.{Cell}
 use Rattle.spl_message.specs.History.{Event, History, cell_at, messages_to}
 use Rattle.spl_message.specs.Key.{same_key}
 use Rattle.spl_message.specs.Message.{act, act_all}
+use Rattle.spl_message.specs.declared.span.Span.{Span}
 use Rattle.spl_message.specs.Rule.{Rule}
 use Rattle.spl_message.proofs.Histories.{cell_at-more, act_all-cond}
 use Rattle.spl_tables.specs.Memtables.{FrozenData, MemtableData}
@@ -27,8 +28,10 @@ use Rattle.spl_state.specs.Sound.{AreDrafts, IsEmpty, meaning}
 use Rattle.spl_state.specs.Whole.{Whole, branches}
 use Rattle.spl_steps.specs.Memory.{HasPut, placed}
 use Rattle.spl_state.specs.declared.reply.Reply.{Reply}
-use Rattle.spl_state.specs.declared.reply.Reply.TheVariants.{Placed}
-use Rattle.spl_core.specs.Standing.{StandsFor, put_called}
+use Rattle.spl_state.specs.declared.reply.Reply.TheVariants.{Placed, Sight}
+use Rattle.spl_descent.specs.Descents.{begun}
+use Rattle.spl_descent.specs.Sights.{OnSight}
+use Rattle.spl_core.specs.Standing.{StandsFor, put_called, begin_called}
 
 copies : (count at : ℕ) → slice_index_or (replicate count idle) at idle ≡ idle
 copies zero at = refl
@@ -135,7 +138,7 @@ module _ (rule : Rule) (tells : Bool) where
     pub others_all : Others rule tells mid new → (other : ℕ) → other < ACTORS → KeepsSight rule tells old new other
     others_all keeps other below = sight_from_counted old new other (subst (λ (w : Whole). KeepsSight rule tells w new other) is_counted (keeps other below))
 
-    stands_counted : (history : History) → StandsFor rule tells old history → StandsFor rule tells mid history
+    pub stands_counted : (history : History) → StandsFor rule tells old history → StandsFor rule tells mid history
     stands_counted history stands = subst (λ (w : Whole). StandsFor rule tells w history) (sym is_counted) (counted_stands old history stands)
 
     pub stands_framed : ((tells ≡ true → AreDrafts rule mid) → IsFramed rule tells mid new actor) → new.counters.places ≡ mid.counters.places → (history : History) → StandsFor rule tells old history → StandsFor rule tells new (history ++ [])
@@ -151,8 +154,24 @@ module _ (rule : Rule) (tells : Bool) where
         let same = subst (λ (w : Whole). StandsFor rule tells w history) (sym (stays never)) (stands_counted history stands) in
         subst (λ (h : History). StandsFor rule tells new h) (sym (append-nil history)) same
 
--- what the publisher of a branch knows holds where the step was counted
-pub asked : {B : Type 0} {table_of : B → Table} {rule : Rule} {tells : Bool} {old mid : Whole} {actor : ℕ} {step : Step B} {branch : Arc B} → mid ≡ refused old → step ≡ Publish branch → (tells ≡ true → Knows table_of rule old actor step) → tells ≡ true → AsksFor rule mid actor (table_of branch.value)
-asked {table_of = table_of} {rule = rule} {old = old} {actor = actor} {step = step} {branch = branch} is_counted is knows told =
-    let here : Knows table_of rule old actor (Publish branch) = subst (λ (s : Step _). Knows table_of rule old actor s) is (knows told) in
-    subst (λ (w : Whole). AsksFor rule w actor (table_of branch.value)) (sym is_counted) here
+-- the begin of a descent, with a place or without one
+module _ (rule : Rule) (tells : Bool) (old mid new : Whole) (actor : ℕ) (is_counted : mid ≡ refused old) where
+  pub stands_begin : {B : Type 0} (span : Span) (reply : Reply B) → ((tells ≡ true → AreDrafts rule mid) → IsFramed rule tells mid new actor) → OnSight reply (λ sight. new ≡ begun mid actor span) (new ≡ mid) → (history : History) → StandsFor rule tells old history → StandsFor rule tells new (history ++ begin_called actor span reply)
+  stands_begin span (Sight sight) framed state history stands =
+      let event : Event = record { actor = actor; call = call.Piece span } in
+      let at_mid = stands_counted rule tells old mid new actor is_counted history stands in
+      let count : length (history ++ event ∷ []) ≡ length history + 1 = length-append history (event ∷ []) in
+      let frame = framed at_mid.drafts in
+      record {
+        places = ap (λ (w : Whole). w.counters.places) state ∙ ap (λ n. n + 1) at_mid.places ∙ sym count;
+        means = λ told key.
+            frame.means told key
+            ∙ at_mid.means told key
+            ∙ sym (cell_at-more rule history event key)
+            ∙ ap (λ n. cell_at rule (history ++ event ∷ []) n key) (sym count);
+        drafts = frame.drafts;
+      }
+  stands_begin span reply framed state history stands =
+      let at_mid = stands_counted rule tells old mid new actor is_counted history stands in
+      let same = subst (λ (w : Whole). StandsFor rule tells w history) (sym state) at_mid in
+      subst (λ (h : History). StandsFor rule tells new h) (sym (append-nil history)) same

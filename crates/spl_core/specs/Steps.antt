@@ -1,25 +1,28 @@
 -- What each step answers, and what it makes of the state.
-use Rattle.std.specs.Prelude.{◌≡◌, ◌≢◌, ℕ, ◌<◌, ◌≤◌, ◌↔◌, ◌⊎◌, List, length, Some}
+use Rattle.std.specs.Prelude.{◌≡◌, ◌≢◌, ℕ, ◌<◌, ◌≤◌, ◌↔◌, ◌⊎◌, List, [], map, length, Some, IfSome}
 use Rattle.spl_memtable.specs.Memtable.{IsFull, Puts}
 use Rattle.spl_message.specs.declared.message.Message.{Message}
 use Rattle.spl_message.specs.Rule.{Rule}
-use Rattle.spl_message.specs.Table.{Table, key_count}
+use Rattle.spl_message.specs.declared.span.Span.{Span}
+use Rattle.spl_message.specs.Table.{Table, key_count, part_of}
 use Rattle.spl_holds.specs.declared.grip.Grip.TheVariants as grip
 use Rattle.spl_state.specs.declared.reply.Reply.{Reply}
 use Rattle.spl_state.specs.declared.reply.Reply.TheVariants.{Done, Placed, Rotated, Picked, Granted, MemFull, NotFull, FrozenFull, Unfit, NoMemory}
-use Rattle.spl_tables.specs.Memtables.{first_unpicked}
+use Rattle.spl_tables.specs.Memtables.{first_unpicked, tables_of}
+use Rattle.spl_state.specs.Actor.{actor_in}
 use Rattle.spl_state.specs.Reply.{state_of}
 use Rattle.spl_state.specs.Whole.{BranchData, Whole}
-use Rattle.spl_pack.specs.declared.draft.Packed.{Packed}
+use Rattle.spl_descent.specs.Descents.{first_descent, next_descent, begin_refusal, begun, move_refusal, moved_down, end_answer, ended}
+use Rattle.spl_descent.specs.Sights.{IsSightOf, OnSight, IfSight, Answers}
 use Rattle.spl_pack.specs.Granting.{extent_in, grant_answer, Grants}
-use Rattle.spl_pack.specs.Incorporating.{ready_in, incorporate_answer, incorporated}
-use Rattle.spl_pack.specs.Picking.{pick_answer, MayPick, picked_at}
+use Rattle.spl_pack.specs.Incorporating.{incorporate_answer, IsIncorporated}
+use Rattle.spl_pack.specs.Picking.{pick_answer, picked_at}
 use Rattle.spl_pack.specs.Publishing.{MayPublish, Publishes}
 use Rattle.spl_steps.specs.Latching.{claim_answer, lock_answer, unlock_answer, gripped}
 use Rattle.spl_steps.specs.Memory.{HasPut, has_rotated}
 use Rattle.spl_steps.specs.Retiring.{retire_answer, after_retire}
 use Rattle.spl_core.specs.declared.step.Step.{Step}
-use Rattle.spl_core.specs.declared.step.Step.TheVariants.{Put, Rotate, Claim, Lock, Unlock, PickFrozen, Grant, Publish, Incorporate, Retire}
+use Rattle.spl_core.specs.declared.step.Step.TheVariants.{Put, Rotate, Begin, MoveDown, End, Claim, Lock, Unlock, PickFrozen, Grant, Publish, Incorporate, Retire}
 
 module _ {B : Type 0} where
   pub record IsPut (rule : Rule) (old : Whole) (key : List ℕ) (message : Message) (reply : Reply B) (new : Whole) : Type 0 where
@@ -43,7 +46,6 @@ module _ {B : Type 0} where
 
   pub record IsPick (old : Whole) (actor : ℕ) (reply : Reply B) (new : Whole) : Type 0 where
     pub answer : reply ≢ NoMemory → reply ≡ pick_answer old actor
-    pub memory : reply ≡ NoMemory → MayPick old actor
     pub done : (position number : ℕ) (table : Table) → first_unpicked old.tables.frozen ≡ Some position → reply ≡ Picked number table → new ≡ picked_at old actor position
     pub refused : ((number : ℕ) (table : Table) → reply ≢ Picked number table) → new ≡ old
 
@@ -60,13 +62,28 @@ module _ {B : Type 0} where
 
   pub record IsIncorporation (old : Whole) (actor : ℕ) (reply : Reply B) (new : Whole) : Type 0 where
     pub answer : reply ≡ incorporate_answer old actor
-    pub done : (packed : Packed) → ready_in old actor ≡ Some packed → reply ≡ Done → new ≡ incorporated old actor packed.number
+    pub done : reply ≡ Done → IsIncorporated old actor new
     pub refused : reply ≢ Done → new ≡ old
+
+  pub record IsBeginning (number_of : B → ℕ) (data_of : B → BranchData) (old : Whole) (actor : ℕ) (span : Span) (reply : Reply B) (new : Whole) : Type 0 where
+    pub answer : Answers (begin_refusal old actor) reply
+    pub state : OnSight reply (λ sight. new ≡ begun old actor span) (new ≡ old)
+    pub sight : IfSight reply (IsSightOf number_of data_of old (first_descent old span))
+    pub tables : IfSight reply (λ sight. sight.tables ≡ map (part_of sight.span) (tables_of old.tables))
+
+  pub record IsMove (number_of : B → ℕ) (data_of : B → BranchData) (old : Whole) (actor : ℕ) (reply : Reply B) (new : Whole) : Type 0 where
+    pub answer : Answers (move_refusal old actor) reply
+    pub state : OnSight reply (λ sight. new ≡ moved_down old actor) (new ≡ old)
+    pub sight : IfSome (actor_in old.actors actor).descent (λ descent. IfSight reply (IsSightOf number_of data_of old (next_descent old descent)))
+    pub tables : IfSight reply (λ sight. sight.tables ≡ [])
 
   -- one step of the actor
   abbrev pub IsStep : (B → ℕ) → (B → BranchData) → Rule → Whole → ℕ → Step B → Reply B → Whole → Type 0
   IsStep number_of data_of rule old actor (Put key message) reply new = IsPut rule old key message reply new
   IsStep number_of data_of rule old actor Rotate reply new = IsRotation old reply new
+  IsStep number_of data_of rule old actor (Begin span) reply new = IsBeginning number_of data_of old actor span reply new
+  IsStep number_of data_of rule old actor MoveDown reply new = IsMove number_of data_of old actor reply new
+  IsStep number_of data_of rule old actor End reply new = IsAnswered old (end_answer old actor) (ended old actor) reply new
   IsStep number_of data_of rule old actor (Claim node) reply new = IsAnswered old (claim_answer old actor node) (gripped old actor node grip.Claim) reply new
   IsStep number_of data_of rule old actor (Lock node) reply new = IsAnswered old (lock_answer old actor node) (gripped old actor node grip.Write) reply new
   IsStep number_of data_of rule old actor (Unlock node) reply new = IsAnswered old (unlock_answer old actor node) (gripped old actor node grip.Free) reply new

@@ -12,6 +12,7 @@ ghost use Rattle.spl_core.specs.Steps.{IsStep};
 
 use crate::step::Step;
 use spl_base::{ACTORS, NoMemory};
+use spl_descent::{begin, end, move_down};
 use spl_extent::EXTENTS;
 use spl_message::{Content, MergeLaw};
 use spl_pack::{grant, incorporate, pick_frozen, publish};
@@ -24,6 +25,7 @@ use std::alloc::Global;
 pub struct Core<B: Content, L: MergeLaw> {
     parts: Parts<B>,
     law: L,
+    alloc: Global,
 }
 
 impl<B: Content, L: MergeLaw> Core<B, L> {
@@ -38,6 +40,7 @@ impl<B: Content, L: MergeLaw> Core<B, L> {
         Ok(Core {
             parts: Parts::new(alloc, extents, callers)?,
             law,
+            alloc,
         })
     }
 
@@ -61,6 +64,9 @@ impl<B: Content, L: MergeLaw> Core<B, L> {
         match step {
             Step::Put { key, message } => put(&mut self.parts, &self.law, &key, message),
             Step::Rotate => rotate(&mut self.parts, actor),
+            Step::Begin { span } => begin(self.alloc, &mut self.parts, actor, &span),
+            Step::MoveDown => move_down(self.alloc, &mut self.parts, actor),
+            Step::End => end(&mut self.parts, actor),
             Step::Claim { node } => claim(&mut self.parts, actor, node),
             Step::Lock { node } => lock(&mut self.parts, actor, node),
             Step::Unlock { node } => unlock(&mut self.parts, actor, node),

@@ -1,4 +1,4 @@
-use spl_message::{Content, Key, Message};
+use spl_message::{Content, Key, Message, Span};
 use std::sync::Arc;
 
 /// What an actor asks of the core.
@@ -8,6 +8,12 @@ pub enum Step<B: Content> {
     Put { key: Key, message: Message },
     /// Freezes the active memtable, where it is full.
     Rotate,
+    /// Begins a descent for the keys of the span, at the root.
+    Begin { span: Span },
+    /// Goes on to the child.
+    MoveDown,
+    /// Ends the descent.
+    End,
     /// Takes a claim on the node.
     Claim { node: u32 },
     /// Makes the claim on the node a write.

@@ -1,34 +1,29 @@
 -- An actor that comes to a node: the root, or the child of the node that it then leaves.
-use Rattle.std.proofs.Common.{◌≡◌, ◌≢◌, ℕ, zero, suc, ◌+◌, ◌<◌, ◌≤◌, max, Bool, true, false, ◌||◌, cond, nat_lt, List, [], ◌∷◌, Option, Some, None, length, get_or, set, refl, sym, ap, subst, ◌∙◌, inl, inr, arith}
+use Rattle.std.proofs.Common.{◌≡◌, ◌≢◌, ℕ, zero, suc, ◌+◌, ◌<◌, ◌≤◌, Bool, true, false, ◌||◌, cond, nat_lt, List, [], ◌∷◌, Option, Some, None, length, get_or, set, refl, sym, ap, subst, ◌∙◌, inl, inr, arith}
 use Rattle.std.specs.Prelude.{All, IsSome, ◌↔◌, is_some, count_by}
-use Rattle.std.proofs.lemmas.Bool.{cases_eq, cases_lt, false≢true, ltb-true, lt-ltb}
+use Rattle.std.proofs.lemmas.Bool.{cases_eq, cases_lt, false≢true, lt-ltb}
 use Rattle.std.proofs.lemmas.List.{get_or-set_same, get_or_past}
 use Rattle.std.proofs.lemmas.List.Elements.{All-get_or}
 use Rattle.std.proofs.lemmas.List.Sums.{sum_by-append}
 use Rattle.spl_base.specs.declared.TheConstants.{ACTORS}
 use Rattle.spl_message.specs.declared.span.Span.{Span}
-use Rattle.spl_message.specs.Rule.{Rule}
 use Rattle.spl_holds.specs.declared.grip.Grip.{Grip}
 use Rattle.spl_holds.specs.declared.grip.Grip.TheVariants.{Free, Read, Claim, Write}
 use Rattle.spl_holds.specs.Grip.{is_read, is_claim, is_write}
 use Rattle.spl_holds.specs.Latch.{IsLatched, grip_in}
-use Rattle.spl_holds.specs.Holds.{grip_of, grips_at, with_grip}
-use Rattle.spl_holds.specs.Counts.{reads_of, claims_of, writes_of}
+use Rattle.spl_holds.specs.Holds.{grip_of, with_grip}
 use Rattle.spl_holds.proofs.HoldsLemmas.{length-with_grip, grip_of-with_grip, grip_of-with_grip_elsewhere, grip_of-with_grip_others}
 use Rattle.spl_node.specs.declared.pivot.Pivot.{Pivot}
-use Rattle.spl_node.specs.Node.{NodeData, IsNode, bare, pivot_at, span_of}
+use Rattle.spl_node.specs.Node.{NodeData, IsNode, bare, pivot_at}
 use Rattle.spl_node.specs.Steps.{fresh, all_keys}
 use Rattle.spl_trunk.specs.Trunk.{node_at}
 use Rattle.spl_trunk.specs.Tree.{number_of, IsChild}
 use Rattle.spl_state.specs.declared.descent.Descent.{Descent}
-use Rattle.spl_state.specs.declared.job.Job.{Job}
 use Rattle.spl_state.specs.declared.actor.Actor.{Actor}
-use Rattle.spl_state.specs.declared.counters.Counters.{Counters}
 use Rattle.spl_state.specs.Actor.{idle, actor_in, with_descent, told_of}
 use Rattle.spl_state.specs.Actors.{IsDescending, LiesUnder, StartsInside, pivot_from}
-use Rattle.spl_state.specs.Frame.{IsFramed}
 use Rattle.spl_state.specs.Reply.{state_of}
-use Rattle.spl_state.specs.Sound.{IsSound, AreDrafts}
+use Rattle.spl_state.specs.Sound.{IsSound}
 use Rattle.spl_state.specs.Whole.{Whole}
 use Rattle.spl_descent.specs.Descents.{arrived, child_of, descent_at, first_descent, is_busy}
 use Rattle.spl_descent.proofs.Moves.{IsMove}

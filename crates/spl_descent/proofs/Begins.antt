@@ -1,6 +1,5 @@
 -- What a descent that begins makes of the state, and what its sight says.
-use Rattle.std.proofs.Common.{◌≡◌, ℕ, ◌+◌, ◌<◌, Bool, true, false, List, Option, Some, length, map, set, refl, sym, ap, ap₂, subst, ◌∙◌, arith}
-use Rattle.std.specs.Prelude.{All}
+use Rattle.std.proofs.Common.{◌≡◌, ℕ, ◌+◌, ◌<◌, Bool, false, List, Some, length, map, set, sym, ap, ap₂, subst, ◌∙◌}
 use Rattle.spl_base.specs.declared.TheConstants.{ACTORS}
 use Rattle.spl_message.specs.declared.message.Message.{Message}
 use Rattle.spl_message.specs.declared.span.Span.{Span}
@@ -21,7 +20,7 @@ use Rattle.spl_state.specs.Reply.{state_of}
 use Rattle.spl_state.specs.Sound.{IsSound}
 use Rattle.spl_state.specs.Whole.{BranchData, Whole, branches}
 use Rattle.spl_descent.specs.Descents.{arrived, begun, first_descent, is_busy, live_under}
-use Rattle.spl_descent.specs.Sights.{AreBranches, IsRight, IsSightOf, MeansRight, rest}
+use Rattle.spl_descent.specs.Sights.{AreBranches, IsRight, MeansRight, rest}
 use Rattle.spl_trunk.specs.Trunk.{node_at}
 use Rattle.spl_descent.proofs.Arrivals.{IsAtRest, at_rest, arrived_in, root_lies}
 use Rattle.spl_descent.proofs.Named.{shared_tables}

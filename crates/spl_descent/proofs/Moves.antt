@@ -9,7 +9,6 @@ use Rattle.spl_holds.specs.declared.grip.Grip.{Grip}
 use Rattle.spl_holds.specs.Latch.{IsLatched}
 use Rattle.spl_holds.specs.Holds.{grip_of}
 use Rattle.spl_node.specs.Node.{NodeData}
-use Rattle.spl_tables.specs.Memtables.{FrozenData}
 use Rattle.spl_state.specs.declared.descent.Descent.{Descent}
 use Rattle.spl_state.specs.declared.job.Job.{Job}
 use Rattle.spl_state.specs.declared.job.Job.TheVariants.{Pack, Merge}
@@ -18,13 +17,12 @@ use Rattle.spl_state.specs.declared.counters.Counters.{Counters}
 use Rattle.spl_state.specs.Actor.{idle, actor_in}
 use Rattle.spl_trunk.specs.Trunk.{node_at}
 use Rattle.spl_trunk.specs.Tree.{named}
-use Rattle.spl_state.specs.Whole.{BranchData, Whole, branches, counts}
+use Rattle.spl_state.specs.Whole.{Whole, branches, counts}
 use Rattle.spl_state.specs.Extents.{mentioned, named_by, AccountsForExtents}
-use Rattle.spl_state.specs.Runs.{IsInRun, AreInRuns}
-use Rattle.spl_state.specs.Actors.{IsActor, IsOnWay, IsAtWork, JobsDiffer, Packs, ArePicked, HasTable}
-use Rattle.spl_state.specs.Bounds.{AreBounded}
+use Rattle.spl_state.specs.Runs.{IsInRun}
+use Rattle.spl_state.specs.Actors.{IsActor, IsOnWay, IsAtWork, Packs}
 use Rattle.spl_state.specs.Frame.{IsFramed}
-use Rattle.spl_state.specs.Sight.{KeepsSight, SeesSource}
+use Rattle.spl_state.specs.Sight.{SeesSource}
 use Rattle.spl_state.specs.Sound.{IsSound, AreDrafts}
 
 -- an element that names the same takes the place of another

@@ -1,8 +1,7 @@
 -- Every branch that a bundle names stands in the state, and is what a descent shares.
-use Rattle.std.proofs.Common.{◌≡◌, ℕ, zero, suc, ◌+◌, ◌<◌, ◌≤◌, Bool, true, false, cond, nat_eq, List, [], ◌∷◌, ◌++◌, Option, Some, None, length, map, flat_map, get_or, refl, sym, ap, ap₂, subst, ◌∙◌, arith, eq-eqb}
-use Rattle.std.specs.Prelude.{All, IsSome, ◌↔◌}
+use Rattle.std.proofs.Common.{◌≡◌, ℕ, zero, suc, ◌<◌, ◌≤◌, List, [], ◌∷◌, ◌++◌, Option, Some, None, length, map, flat_map, get_or, refl, sym, ap, ap₂, subst, ◌∙◌, arith}
+use Rattle.std.specs.Prelude.{All, IsSome}
 use Rattle.std.specs.Option.{option_map}
-use Rattle.std.proofs.lemmas.Bool.{false≢true}
 use Rattle.std.proofs.lemmas.List.{map-append}
 use Rattle.std.proofs.lemmas.List.Elements.{All-from_get_or, All-get_or}
 use Rattle.spl_message.specs.Table.{Table}
@@ -12,10 +11,10 @@ use Rattle.spl_node.specs.Steps.{fresh}
 use Rattle.spl_refs.specs.Refs.{Published, branch_at}
 use Rattle.spl_trunk.specs.Trunk.{node_at}
 use Rattle.spl_trunk.specs.Tree.{times, named}
-use Rattle.spl_trunk.proofs.Counts.{times-append, times-joined, times_one, times_itself}
-use Rattle.spl_state.specs.Extents.{mentioned, named_by}
+use Rattle.spl_trunk.proofs.Counts.{times-append, times_one, times_itself}
+use Rattle.spl_state.specs.Extents.{named_by}
 use Rattle.spl_state.specs.Sound.{IsSound}
-use Rattle.spl_state.specs.Whole.{BranchData, Whole, branches, counts, table_or, table_in}
+use Rattle.spl_state.specs.Whole.{BranchData, Whole, branches, table_or, table_in}
 use Rattle.spl_state.proofs.Views.{all_seen, branch_seen}
 use Rattle.spl_descent.specs.Sights.{HasBranches, AreBranches}
 

@@ -1,26 +1,24 @@
 -- What the sights of a descent say of its keys.
-use Rattle.std.proofs.Common.{◌≡◌, ℕ, zero, suc, ◌<◌, Bool, true, List, map, Some, None, Option, length, refl, sym, ap, ap₂, subst, ◌∙◌, arith}
+use Rattle.std.proofs.Common.{◌≡◌, ℕ, zero, suc, ◌<◌, List, map, None, length, refl, sym, ap, ap₂, ◌∙◌}
 use Rattle.std.proofs.lemmas.Simd.{map-map}
-use Rattle.spl_message.specs.declared.span.Span.{Span}
 use Rattle.spl_message.specs.Cell.{Cell}
 use Rattle.spl_message.specs.Message.{act_all}
 use Rattle.spl_message.specs.Rule.{Rule}
 use Rattle.spl_message.specs.Span.{InSpan}
 use Rattle.spl_message.specs.Table.{Table, chain, part_of}
 use Rattle.spl_bundle.specs.Numbered.{live}
-use Rattle.spl_node.specs.declared.pivot.Pivot.{Pivot}
-use Rattle.spl_node.specs.Node.{NodeData, pivot_at, pivot_for}
+use Rattle.spl_node.specs.Node.{NodeData, pivot_at}
 use Rattle.spl_trunk.specs.Trunk.{node_at}
 use Rattle.spl_trunk.specs.Tree.{sub, live_tables, child_for, number_of}
 use Rattle.spl_trunk.proofs.Trees.{child_is}
 use Rattle.spl_tables.proofs.Chains.{chain-parts}
 use Rattle.spl_state.specs.declared.descent.Descent.{Descent}
-use Rattle.spl_state.specs.Actors.{LiesUnder, pivot_from}
+use Rattle.spl_state.specs.Actors.{LiesUnder}
 use Rattle.spl_state.specs.Sight.{tables_under}
 use Rattle.spl_state.specs.Sound.{IsSound}
 use Rattle.spl_state.specs.Whole.{Whole, branches, table_in}
 use Rattle.spl_descent.specs.Descents.{child_of, live_under}
-use Rattle.spl_descent.specs.Sights.{rest, below, IsRight, LeadsRight}
+use Rattle.spl_descent.specs.Sights.{rest, below, IsRight}
 
 module _ (rule : Rule) (old : Whole) (sound : IsSound old) where
   module _ (descent : Descent) (exists : descent.node < length old.nodes) (lies : LiesUnder (node_at old.nodes descent.node) descent.span) where

@@ -21,7 +21,10 @@ use Rattle.spl_state.specs.Whole.{Whole}
 
 -- the span with its end lowered to that of the node's pivot that holds its start
 abbrev pub span_under : NodeData → Span → Span
-span_under node span = record { from = span.from; to = first_end span.to (span_of node (pivot_from node.pivots span.from)).to }
+span_under node span = record {
+  from = span.from;
+  to = first_end span.to (span_of node (pivot_from node.pivots span.from)).to;
+}
 
 -- the branches that are live for that pivot, oldest first
 abbrev pub live_under : NodeData → Span → List ℕ
@@ -33,7 +36,11 @@ child_under node span = number_of (pivot_at node.pivots (pivot_from node.pivots 
 
 -- a descent with this place that comes to the node and asks for these keys
 abbrev pub descent_at : Whole → ℕ → Span → ℕ → Descent
-descent_at whole place span node = record { place = place; span = span_under (node_at whole.nodes node) span; node = node }
+descent_at whole place span node = record {
+  place = place;
+  span = span_under (node_at whole.nodes node) span;
+  node = node;
+}
 
 -- a descent begins at the root and has the next place
 abbrev pub first_descent : Whole → Span → Descent
@@ -83,7 +90,8 @@ ended whole actor = left_from whole actor (actor_in whole.actors actor).descent
 
 -- the actor has a descent, a job or a latch
 abbrev pub is_busy : ActorState → Bool
-is_busy state = state.descent || (state.job || (nat_lt 0 state.reads || (nat_lt 0 state.claims || nat_lt 0 state.writes)))
+is_busy state =
+    state.descent || (state.job || (nat_lt 0 state.reads || (nat_lt 0 state.claims || nat_lt 0 state.writes)))
 
 module _ {B : Type 0} where
   -- refused by the actor that writes the node

@@ -17,21 +17,28 @@ use spl_message::{Content, Span};
 use spl_state::{ActorState, Descent, Parts, Reply, Sight};
 use std::alloc::Global;
 
-/// Begins a descent for the keys of the span, at the root. It has the next place in the history of all calls, and what it is
-/// given holds at that place.
+/// Begins a descent for the keys of the span, at the root. It has the next place in the history of all calls,
+/// and what it is given holds at that place.
 pub fn begin<B: Content>(alloc: Global, parts: &mut Parts<B>, actor: u32, span: &Span) -> Reply<B>
     requires known { actor < ACTORS }
     requires fresh { AreBelow parts.old.nodes parts.old.tables parts.old.counters }
     ensures answer { Answers (begin_refusal parts.old actor) result }
-    ensures state { OnSight result (λ sight. parts.new ≡ begun parts.old actor span.now) (parts.new ≡ parts.old) }
+    ensures state { OnSight result (λ sight. parts.new ≡ begun parts.old actor span.now)
+        (parts.new ≡ parts.old) }
+    ensures steps { parts.new.counters.steps ≡ parts.old.counters.steps }
 
     // What the sight has, and what that says of its keys.
-    ensures sight { IfSight result (IsSightOf B.number (branch_data B.extents B.entries B.cuts B.table) parts.old (first_descent parts.old span.now)) }
-    ensures tables { IfSight result (λ sight. sight.tables ≡ map (part_of sight.span) (tables_of parts.old.tables)) }
-    ensures means { (rule : Rule) → B.TELLS ≡ true → IfSight result (λ sight. MeansRight rule parts.old (first_descent parts.old span.now) sight.tables) }
-    ensures right { (rule : Rule) → B.TELLS ≡ true → IfSight result (λ sight. IsRight rule parts.old (first_descent parts.old span.now) (map B.table sight.branches)) }
+    ensures sight { IfSight result (IsSightOf B.number (branch_data B.extents B.entries B.cuts B.table)
+        parts.old (first_descent parts.old span.now)) }
+    ensures tables { IfSight result (λ sight.
+        sight.tables ≡ map (part_of sight.span) (tables_of parts.old.tables)) }
+    ensures means { (rule : Rule) → B.TELLS ≡ true → IfSight result (λ sight.
+        MeansRight rule parts.old (first_descent parts.old span.now) sight.tables) }
+    ensures right { (rule : Rule) → B.TELLS ≡ true → IfSight result (λ sight.
+        IsRight rule parts.old (first_descent parts.old span.now) (map B.table sight.branches)) }
 
-    ensures framed { (rule : Rule) → (B.TELLS ≡ true → AreDrafts rule parts.old) → IsFramed rule B.TELLS parts.old parts.new actor }
+    ensures framed { (rule : Rule) → (B.TELLS ≡ true → AreDrafts rule parts.old)
+        → IsFramed rule B.TELLS parts.old parts.new actor }
 {
     let state = parts.state(actor);
     if is_busy(&state) {
@@ -70,8 +77,10 @@ fn first_sight<B: Content>(
     parts: &Parts<B>,
     span: &Span,
 ) -> Result<Sight<B>, NoMemory>
-    ensures sight { IfOk result (IsSightOf B.number (branch_data B.extents B.entries B.cuts B.table) parts.now (first_descent parts.now span.now)) }
-    ensures tables { IfOk result (λ sight. sight.tables ≡ map (part_of sight.span) (tables_of parts.now.tables)) }
+    ensures sight { IfOk result (IsSightOf B.number (branch_data B.extents B.entries B.cuts B.table)
+        parts.now (first_descent parts.now span.now)) }
+    ensures tables { IfOk result (λ sight.
+        sight.tables ≡ map (part_of sight.span) (tables_of parts.now.tables)) }
 {
     let mut sight = sight_at(alloc, parts, parts.counters.places, span, 0)?;
     sight.tables = parts.tables.slices(alloc, &sight.span)?;

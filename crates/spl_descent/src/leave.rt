@@ -16,7 +16,9 @@ pub fn end<B: Content>(parts: &mut Parts<B>, actor: u32) -> Reply<B>
     ensures answer { result ≡ end_answer parts.old actor }
     ensures done { result ≡ Reply.Done → parts.new ≡ ended parts.old actor }
     ensures refused { result ≢ Reply.Done → parts.new ≡ parts.old }
-    ensures framed { (rule : Rule) → (B.TELLS ≡ true → AreDrafts rule parts.old) → IsFramed rule B.TELLS parts.old parts.new actor }
+    ensures counters { parts.new.counters ≡ parts.old.counters }
+    ensures framed { (rule : Rule) → (B.TELLS ≡ true → AreDrafts rule parts.old)
+        → IsFramed rule B.TELLS parts.old parts.new actor }
 {
     match parts.actors.at(actor).descent {
         None => {

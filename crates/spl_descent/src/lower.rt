@@ -19,22 +19,28 @@ use spl_state::{Descent, Parts, Reply};
 use spl_trunk::Trunk;
 use std::alloc::Global;
 
-/// Goes on to the child of the pivot that holds the descent's start: the actor reads the child, and then leaves the parent.
+/// Goes on to the child of the pivot that holds the descent's start: the actor reads the child, and then
+/// leaves the parent.
 pub fn move_down<B: Content>(alloc: Global, parts: &mut Parts<B>, actor: u32) -> Reply<B>
     requires { actor < ACTORS }
     ensures answer { Answers (move_refusal parts.old actor) result }
     ensures state { OnSight result (λ sight. parts.new ≡ moved_down parts.old actor) (parts.new ≡ parts.old) }
+    ensures counters { parts.new.counters ≡ parts.old.counters }
 
     // What the sight has, and what that says of its keys.
     ensures sight { IfSome (actor_in parts.old.actors actor).descent (λ descent.
-        IfSight result (IsSightOf B.number (branch_data B.extents B.entries B.cuts B.table) parts.old (next_descent parts.old descent))) }
+        IfSight result (IsSightOf B.number (branch_data B.extents B.entries B.cuts B.table)
+        parts.old (next_descent parts.old descent))) }
     ensures tables { IfSight result (λ sight. sight.tables ≡ []) }
-    ensures leads { (rule : Rule) → B.TELLS ≡ true → IfSome (actor_in parts.old.actors actor).descent (λ descent.
+    ensures leads { (rule : Rule) → B.TELLS ≡ true
+        → IfSome (actor_in parts.old.actors actor).descent (λ descent.
         IfSight result (λ sight. LeadsRight rule parts.old descent (next_descent parts.old descent))) }
-    ensures right { (rule : Rule) → B.TELLS ≡ true → IfSome (actor_in parts.old.actors actor).descent (λ descent.
-        IfSight result (λ sight. IsRight rule parts.old (next_descent parts.old descent) (map B.table sight.branches))) }
+    ensures right { (rule : Rule) → B.TELLS ≡ true
+        → IfSome (actor_in parts.old.actors actor).descent (λ descent. IfSight result (λ sight.
+        IsRight rule parts.old (next_descent parts.old descent) (map B.table sight.branches))) }
 
-    ensures framed { (rule : Rule) → (B.TELLS ≡ true → AreDrafts rule parts.old) → IsFramed rule B.TELLS parts.old parts.new actor }
+    ensures framed { (rule : Rule) → (B.TELLS ≡ true → AreDrafts rule parts.old)
+        → IsFramed rule B.TELLS parts.old parts.new actor }
 {
     let Some(descent) = parts.actors.at(actor).descent else {
         let state = parts.state(actor);
@@ -67,7 +73,8 @@ pub fn move_down<B: Content>(alloc: Global, parts: &mut Parts<B>, actor: u32) ->
 fn child_of(trunk: &Trunk, node: u32, span: &Span) -> Option<u32>
     requires exists { node < length trunk.now }
     requires start { StartsInside (node_at trunk.now node).range span.now.from }
-    ensures { result ≡ (pivot_at (node_at trunk.now node).pivots (pivot_from (node_at trunk.now node).pivots span.now.from)).child }
+    ensures { result ≡ (pivot_at (node_at trunk.now node).pivots
+        (pivot_from (node_at trunk.now node).pivots span.now.from)).child }
 {
     let node = trunk.node(node).unwrap();
     let pivot = pivot_from(node, &span.from);

@@ -51,8 +51,10 @@ fn share<B: Content>(
     shared: &mut Vec<Arc<B>>,
 ) -> Result<(), NoMemory>
     requires { All (λ number. IsSome (branch_at refs.now number)) numbers.now }
-    ensures { OnOk result ((front : List ℕ) → HasBranches B.number (branch_at refs.now) front (map (λ b. b.value) shared.old.items)
-        → HasBranches B.number (branch_at refs.now) (front ++ numbers.now) (map (λ b. b.value) shared.new.items)) }
+    ensures { OnOk result ((front : List ℕ)
+        → HasBranches B.number (branch_at refs.now) front (map (λ b. b.value) shared.old.items)
+        → HasBranches B.number (branch_at refs.now) (front ++ numbers.now)
+        (map (λ b. b.value) shared.new.items)) }
 {
     for number in numbers {
         let branch = refs.find(*number).unwrap();
@@ -68,7 +70,8 @@ fn live_branches<B: Content>(
     lists: &Bundles,
     mark: u64,
 ) -> Result<Branches<B>, NoMemory>
-    requires { All (λ bundle. All (λ number. IsSome (branch_at refs.now number)) bundle.branches) lists.now.bundles }
+    requires { All (λ bundle. All (λ number. IsSome (branch_at refs.now number)) bundle.branches)
+        lists.now.bundles }
     ensures { IfOk result (HasBranches B.number (branch_at refs.now) (live lists.now mark)) }
 {
     let mut shared = Vec::with_capacity(alloc, lists.live_len(mark))?;
@@ -89,7 +92,8 @@ pub fn sight_at<B: Content>(
 ) -> Result<Sight<B>, NoMemory>
     requires exists { number < length parts.now.nodes }
     requires start { StartsInside (node_at parts.now.nodes number).range span.now.from }
-    ensures sight { IfOk result (IsSightOf B.number (branch_data B.extents B.entries B.cuts B.table) parts.now (descent_at parts.now place span.now number)) }
+    ensures sight { IfOk result (IsSightOf B.number (branch_data B.extents B.entries B.cuts B.table)
+        parts.now (descent_at parts.now place span.now number)) }
     ensures tables { IfOk result (λ sight. sight.tables ≡ []) }
 {
     let node = parts.trunk.node(number).unwrap();

@@ -56,3 +56,7 @@ incorporated whole actor number = record whole {
   tables = without_oldest whole.tables;
   actors = slice_set whole.actors actor (with_job (actor_in whole.actors actor) None);
 }
+
+-- the branch that the actor packed hangs at the root
+abbrev pub IsIncorporated : Whole → ℕ → Whole → Type 0
+IsIncorporated old actor new = (packed : Packed) → ready_in old actor ≡ Some packed → new ≡ incorporated old actor packed.number

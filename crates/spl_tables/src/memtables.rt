@@ -164,6 +164,7 @@ impl Memtables {
             → OnOk result (self.new ≡ picked_by self.old position actor) }
         ensures given { (position : ℕ) → first_unpicked self.old.frozen ≡ Some position
             → IfOk result (λ picked. IfSome picked (λ it. IsOf it (frozen_at self.old.frozen position))) }
+        ensures memory { OnErr result (IsSome (first_unpicked self.old.frozen)) }
         ensures err { OnErr result (self.new ≡ self.old) }
     {
         match self.first_unpicked() {

@@ -1,9 +1,8 @@
-use Rattle.std.proofs.Common.{◌≡◌, ℕ, ◌+◌, ◌<◌, List, length, map, refl, sym, ap, ap₂, subst, ◌∙◌, arith}
+use Rattle.std.proofs.Common.{ℕ, ◌<◌, List, map, refl, sym, ap, ap₂, subst, ◌∙◌, arith}
 use Rattle.std.specs.Prelude.{All}
 use Rattle.spl_message.specs.declared.span.Span.{Span}
 use Rattle.spl_holds.specs.declared.grip.Grip.{Grip}
 use Rattle.spl_holds.specs.Latch.{IsLatched}
-use Rattle.spl_state.specs.declared.descent.Descent.{Descent}
 use Rattle.spl_state.specs.View.{branch_data, whole_of}
 use Rattle.spl_state.specs.Whole.{Whole}
 use Rattle.spl_descent.specs.Descents.{begun, first_descent}

@@ -1,4 +1,4 @@
-use Rattle.std.proofs.Common.{◌≡◌, sym, ap, subst, refl, ◌∙◌, List}
+use Rattle.std.proofs.Common.{sym, ap, subst, refl, ◌∙◌, List}
 use Rattle.std.specs.Prelude.{All}
 use Rattle.spl_holds.specs.declared.grip.Grip.{Grip}
 use Rattle.spl_holds.specs.Latch.{IsLatched}

@@ -1,8 +1,7 @@
-use Rattle.std.proofs.Common.{◌≡◌, ℕ, ◌<◌, List, length, ap, ◌∙◌, arith}
+use Rattle.std.proofs.Common.{ℕ, ◌<◌, List, length, ap, ◌∙◌, arith}
 use Rattle.std.proofs.lemmas.List.{get_or_default}
 use Rattle.spl_node.specs.declared.pivot.Pivot.{Pivot}
 use Rattle.spl_node.specs.Node.{NodeData, bare, pivot_at}
-use Rattle.spl_trunk.specs.Trunk.{node_at}
 use Rattle.spl_state.specs.Actors.{pivot_from}
 use Rattle.spl_descent.proofs.Places.{pivot_from_within}
 use Rattle.spl_descent.proofs.lower.child_of.Goals as goal

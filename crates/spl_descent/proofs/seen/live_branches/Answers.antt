@@ -1,4 +1,4 @@
-use Rattle.std.proofs.Common.{◌≡◌, ℕ, max, List, ◌++◌, map, sym, ap, subst, ◌∙◌, arith}
+use Rattle.std.proofs.Common.{ℕ, max, List, ◌++◌, map, sym, ap, subst, ◌∙◌, arith}
 use Rattle.spl_bundle.proofs.Live.{live_below, live_more}
 use Rattle.spl_refs.specs.Refs.{branch_at}
 use Rattle.spl_descent.specs.Sights.{HasBranches}

@@ -1,4 +1,4 @@
-use Rattle.std.proofs.Common.{◌≡◌, ℕ, ◌<◌, List, length, refl, sym, ap, subst, ◌∙◌, arith}
+use Rattle.std.proofs.Common.{ℕ, ◌<◌, List, length, refl, sym, ap, subst, ◌∙◌, arith}
 use Rattle.std.specs.Prelude.{IsSome}
 use Rattle.std.proofs.lemmas.List.{get_or_default}
 use Rattle.spl_bundle.specs.Numbered.{Bundle}
@@ -7,8 +7,6 @@ use Rattle.spl_node.specs.Node.{NodeData, bare, pivot_at}
 use Rattle.spl_refs.specs.Refs.{branch_at}
 use Rattle.spl_state.specs.View.{branch_data, whole_of}
 use Rattle.spl_state.specs.Whole.{Whole}
-use Rattle.spl_descent.specs.Descents.{descent_at}
-use Rattle.spl_descent.specs.Sights.{IsSightOf}
 use Rattle.spl_descent.proofs.Named.{AllStand, named_stand, all_there}
 use Rattle.spl_descent.proofs.Places.{pivot_from_within}
 use Rattle.spl_descent.proofs.Read.{sight_is}

@@ -5,9 +5,10 @@ use Rattle.spl_state.specs.Frame.{refused}
 use Rattle.spl_state.specs.View.{branch_data}
 use Rattle.spl_state.specs.Whole.{Whole}
 use Rattle.spl_core.specs.declared.step.Step.{Step}
-use Rattle.spl_core.specs.Standing.{StandsFor, called}
+use Rattle.spl_pack.specs.Publishing.{AsksFor}
+use Rattle.spl_core.specs.Standing.{StandsFor, Knows, called}
 use Rattle.spl_core.specs.Steps.{IsStep, IsPut}
-use Rattle.spl_core.proofs.Standings.{others_framed, others_all, stands_framed, stands_put}
+use Rattle.spl_core.proofs.Standings.{others_framed, others_all, stands_framed, stands_put, stands_begin}
 use Rattle.spl_core.proofs.engine.Core.step.Goals as goal
 
 pub returns-in-Put-clause-counted : goal.returns-in-Put-clause-counted
@@ -88,11 +89,11 @@ returns-in-Grant-clause-counted g c = c.grant.ensures.steps ∙ ap (λ (w : Whol
 
 pub returns-in-Publish-clause-stands : goal.returns-in-Publish-clause-stands
 returns-in-Publish-clause-stands g c = λ history stands.
-    let here = stands_framed (g.L.MergeLaw.rule c.args.self.now.law) _ _ _ c.publish.new.parts c.args.actor c.count.ensures.counted (λ drafts. c.publish.ensures.framed (g.L.MergeLaw.rule c.args.self.now.law) drafts (asked c.count.ensures.counted c.in-Publish.is c.requires.knows)) c.publish.ensures.places history stands in
+    let here = stands_framed (g.L.MergeLaw.rule c.args.self.now.law) _ _ _ c.publish.new.parts c.args.actor c.count.ensures.counted (λ drafts. c.publish.ensures.framed (g.L.MergeLaw.rule c.args.self.now.law) drafts (λ told. subst (λ (w : Whole). AsksFor (g.L.MergeLaw.rule c.args.self.now.law) w c.args.actor (g.B.Content.table c.in-Publish.branch.value)) (sym c.count.ensures.counted) (subst (λ (s : Step g.row.B.Denot). Knows g.B.Content.table (g.L.MergeLaw.rule c.args.self.now.law) c.args.self.now.parts c.args.actor s) c.in-Publish.is (c.requires.knows told)))) c.publish.ensures.places history stands in
     subst (λ (s : Step g.row.B.Denot). StandsFor (g.L.MergeLaw.rule c.args.self.now.law) g.B.Content.TELLS c.publish.new.parts (history ++ called c.args.actor s c.publish.result)) (sym c.in-Publish.is) here
 
 pub returns-in-Publish-clause-others : goal.returns-in-Publish-clause-others
-returns-in-Publish-clause-others g c = others_framed (g.L.MergeLaw.rule c.args.self.now.law) _ _ _ c.publish.new.parts c.args.actor c.count.ensures.counted (λ drafts. c.publish.ensures.framed (g.L.MergeLaw.rule c.args.self.now.law) drafts (asked c.count.ensures.counted c.in-Publish.is c.requires.knows))
+returns-in-Publish-clause-others g c = others_framed (g.L.MergeLaw.rule c.args.self.now.law) _ _ _ c.publish.new.parts c.args.actor c.count.ensures.counted (λ drafts. c.publish.ensures.framed (g.L.MergeLaw.rule c.args.self.now.law) drafts (λ told. subst (λ (w : Whole). AsksFor (g.L.MergeLaw.rule c.args.self.now.law) w c.args.actor (g.B.Content.table c.in-Publish.branch.value)) (sym c.count.ensures.counted) (subst (λ (s : Step g.row.B.Denot). Knows g.B.Content.table (g.L.MergeLaw.rule c.args.self.now.law) c.args.self.now.parts c.args.actor s) c.in-Publish.is (c.requires.knows told))))
 
 pub returns-in-Publish-clause-counted : goal.returns-in-Publish-clause-counted
 returns-in-Publish-clause-counted g c = c.publish.ensures.steps ∙ ap (λ (w : Whole). w.counters.steps) c.count.ensures.counted
@@ -107,3 +108,36 @@ returns-in-Incorporate-clause-others g c = others_framed (g.L.MergeLaw.rule c.ar
 
 pub returns-in-Incorporate-clause-counted : goal.returns-in-Incorporate-clause-counted
 returns-in-Incorporate-clause-counted g c = c.incorporate.ensures.steps ∙ ap (λ (w : Whole). w.counters.steps) c.count.ensures.counted
+
+pub returns-in-MoveDown-clause-stands : goal.returns-in-MoveDown-clause-stands
+returns-in-MoveDown-clause-stands g c = λ history stands.
+    let here = stands_framed (g.L.MergeLaw.rule c.args.self.now.law) _ _ _ c.move_down.new.parts c.args.actor c.count.ensures.counted (c.move_down.ensures.framed (g.L.MergeLaw.rule c.args.self.now.law)) (ap (λ (n : Counters). n.places) c.move_down.ensures.counters) history stands in
+    subst (λ (s : Step g.row.B.Denot). StandsFor (g.L.MergeLaw.rule c.args.self.now.law) g.B.Content.TELLS c.move_down.new.parts (history ++ called c.args.actor s c.move_down.result)) (sym c.in-MoveDown.is) here
+
+pub returns-in-MoveDown-clause-others : goal.returns-in-MoveDown-clause-others
+returns-in-MoveDown-clause-others g c = others_framed (g.L.MergeLaw.rule c.args.self.now.law) _ _ _ c.move_down.new.parts c.args.actor c.count.ensures.counted (c.move_down.ensures.framed (g.L.MergeLaw.rule c.args.self.now.law))
+
+pub returns-in-MoveDown-clause-counted : goal.returns-in-MoveDown-clause-counted
+returns-in-MoveDown-clause-counted g c = ap (λ (n : Counters). n.steps) c.move_down.ensures.counters ∙ ap (λ (w : Whole). w.counters.steps) c.count.ensures.counted
+
+pub returns-in-End-clause-stands : goal.returns-in-End-clause-stands
+returns-in-End-clause-stands g c = λ history stands.
+    let here = stands_framed (g.L.MergeLaw.rule c.args.self.now.law) _ _ _ c.end.new.parts c.args.actor c.count.ensures.counted (c.end.ensures.framed (g.L.MergeLaw.rule c.args.self.now.law)) (ap (λ (n : Counters). n.places) c.end.ensures.counters) history stands in
+    subst (λ (s : Step g.row.B.Denot). StandsFor (g.L.MergeLaw.rule c.args.self.now.law) g.B.Content.TELLS c.end.new.parts (history ++ called c.args.actor s c.end.result)) (sym c.in-End.is) here
+
+pub returns-in-End-clause-others : goal.returns-in-End-clause-others
+returns-in-End-clause-others g c = others_framed (g.L.MergeLaw.rule c.args.self.now.law) _ _ _ c.end.new.parts c.args.actor c.count.ensures.counted (c.end.ensures.framed (g.L.MergeLaw.rule c.args.self.now.law))
+
+pub returns-in-End-clause-counted : goal.returns-in-End-clause-counted
+returns-in-End-clause-counted g c = ap (λ (n : Counters). n.steps) c.end.ensures.counters ∙ ap (λ (w : Whole). w.counters.steps) c.count.ensures.counted
+
+pub returns-in-Begin-clause-stands : goal.returns-in-Begin-clause-stands
+returns-in-Begin-clause-stands g c = λ history stands.
+    let here = stands_begin (g.L.MergeLaw.rule c.args.self.now.law) _ _ _ c.begin.new.parts c.args.actor c.count.ensures.counted c.in-Begin.span c.begin.result (c.begin.ensures.framed (g.L.MergeLaw.rule c.args.self.now.law)) c.begin.ensures.state history stands in
+    subst (λ (s : Step g.row.B.Denot). StandsFor (g.L.MergeLaw.rule c.args.self.now.law) g.B.Content.TELLS c.begin.new.parts (history ++ called c.args.actor s c.begin.result)) (sym c.in-Begin.is) here
+
+pub returns-in-Begin-clause-others : goal.returns-in-Begin-clause-others
+returns-in-Begin-clause-others g c = others_framed (g.L.MergeLaw.rule c.args.self.now.law) _ _ _ c.begin.new.parts c.args.actor c.count.ensures.counted (c.begin.ensures.framed (g.L.MergeLaw.rule c.args.self.now.law))
+
+pub returns-in-Begin-clause-counted : goal.returns-in-Begin-clause-counted
+returns-in-Begin-clause-counted g c = c.begin.ensures.steps ∙ ap (λ (w : Whole). w.counters.steps) c.count.ensures.counted
