@@ -1,5 +1,5 @@
 //! What is undone of a job that its actor gives up: the marks of its run, and its names of branches.
-ghost use Rattle.std.specs.Prelude.{◌≡◌, ℕ, ◌<◌, ◌≤◌, List, ◌++◌};
+ghost use Rattle.std.specs.Prelude.{◌≡◌, ℕ, ◌<◌, List, ◌++◌};
 ghost use Rattle.spl_base.specs.declared.TheConstants.{ACTORS};
 ghost use Rattle.spl_extent.specs.Pool.{granted_to};
 ghost use Rattle.spl_refs.specs.Refs.{count_at, branch_at};
@@ -65,7 +65,6 @@ fn end_draft<B: Content>(refs: &mut Refs<B>, pool: &mut Pool, published: bool, n
     ensures granted { (other : ℕ) → granted_to pool.new other ≡ granted_to pool.old other }
     ensures branches { (other : ℕ) → 0 < count_at refs.new other
         → branch_at refs.new other ≡ branch_at refs.old other }
-    ensures fewer { (other : ℕ) → count_at refs.new other ≤ count_at refs.old other }
 {
     if published {
         let_go(refs, pool, number);
