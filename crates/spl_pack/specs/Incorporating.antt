@@ -1,5 +1,5 @@
 -- What an incorporation answers, and what it makes of the state.
-use Rattle.std.specs.Prelude.{ℕ, ◌==◌, nat_lt, Bool, true, false, if◌then◌else◌, List, [], ◌∷◌, Option, Some, None, length, slice_set}
+use Rattle.std.specs.Prelude.{◌≡◌, ℕ, ◌==◌, nat_lt, Bool, true, false, if◌then◌else◌, List, [], ◌∷◌, Option, Some, None, length, slice_set}
 use Rattle.spl_bundle.specs.declared.bundles.TheConstants.{MAX_LISTS}
 use Rattle.spl_bundle.specs.Numbered.{pushed}
 use Rattle.spl_holds.specs.Grip.{is_write}
