@@ -43,8 +43,7 @@ use Rattle.spl_bundle.specs.declared.limit.Limit.{Limit}
 use Rattle.spl_tables.specs.declared.memtables.Oldest.{Oldest}
 use Rattle.spl_pack.specs.declared.draft.Packed.{Packed}
 use Rattle.spl_pack.specs.Incorporating.{packed_by, ready_in, older_than, unless_older, where_ready, incorporate_answer, with_branch, incorporated}
-use Rattle.spl_pack.proofs.Replaced.{other_actor, each_actor, times-actor, runs_kept, job_of, working, known_of}
-use Rattle.spl_pack.proofs.Picks.{one_number}
+use Rattle.spl_state.proofs.Replaced.{one_number, other_actor, each_actor, times-actor, runs_kept, job_of, working, known_of}
 use Rattle.spl_pack.proofs.Roots.{grown, long, root_is, other_is, each_node, same_part, named_now, still_runs, still_ends, next_numbers}
 
 module _ {A : Type 0} where

@@ -1,8 +1,7 @@
-pub mod Replaced
+pub mod Results
 pub mod Grants
 pub mod Picks
 pub mod Owners
-pub mod Named
 pub mod Publishes
 pub mod Roots
 pub mod Incorporates

@@ -34,7 +34,7 @@ use Rattle.spl_state.proofs.Frames.{unchanged_framed}
 use Rattle.spl_tables.specs.declared.frozen_table.Picked.{Picked}
 use Rattle.spl_tables.specs.Picked.{IsOf}
 use Rattle.spl_pack.specs.Picking.{is_busy, pick_of, pick_answer, picked_at}
-use Rattle.spl_pack.proofs.Replaced.{slice_get_at, slice_get_off, other_actor, this_actor, each_actor, times-actor, runs_kept, job_of, working}
+use Rattle.spl_state.proofs.Replaced.{one_number, slice_get_at, slice_get_off, other_actor, this_actor, each_actor, times-actor, runs_kept, job_of, working}
 
 no_descent : (a : Actor) → is_busy a ≡ false → a.descent ≡ None
 no_descent a none = by a.descent none
@@ -143,21 +143,6 @@ module _ (frozen : List FrozenData) (position actor : ℕ) (first : first_unpick
         (position, one, was_there, ap (λ (g : FrozenData). g.number) is, ap (λ (g : FrozenData). g.table) is)
     | inr there ↦ (i, f, sym (slice_get_off frozen position i (taken_by actor one) there) ∙ at, refl, refl)
   ]
-
--- no two frozen memtables have the same number
-pub one_number : (tables : MemtableData) → AreMemtables tables → (i j : ℕ) (f g : FrozenData) → slice_get tables.frozen i ≡ Some f → slice_get tables.frozen j ≡ Some g → f.number ≡ g.number → i ≡ j
-one_number tables are i j f g at_i at_j same =
-    let in_i = slice_get_within tables.frozen i f at_i in
-    let in_j = slice_get_within tables.frozen j g at_j in
-    let is_i = ap (λ (h : FrozenData). h.number) (get_or_from_slice_get tables.frozen i f f at_i) in
-    let is_j = ap (λ (h : FrozenData). h.number) (get_or_from_slice_get tables.frozen j g f at_j) in
-    elim (cases_eq i j) [
-      | inl equal ↦ equal
-      | inr apart ↦ elim (cases_lt i j) [
-        | inl lower ↦ let below = are.rising i j f lower in_j in absurd (omega arith)
-        | inr upper ↦ let below = are.rising j i f (omega arith) in_i in absurd (omega arith)
-      ]
-    ]
 
 module _ (old : Whole) (sound : IsSound old) (actor position : ℕ) (known : actor < ACTORS) (is_idle : is_busy (actor_in old.actors actor) ≡ false) (first : first_unpicked old.tables.frozen ≡ Some position) where
   abbrev new : Whole

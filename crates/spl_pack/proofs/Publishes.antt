@@ -37,9 +37,9 @@ use Rattle.spl_state.specs.Whole.{BranchData, Whole, branches, counts, table_in,
 use Rattle.spl_pack.specs.Publishing.{MayPublish, Publishes, held_all, job_number, IsAskedFor, AsksFor}
 use Rattle.spl_state.proofs.Frames.{unchanged_framed}
 use Rattle.spl_state.proofs.Views.{seen, all_seen, held_seen}
-use Rattle.spl_pack.proofs.Replaced.{other_actor, each_actor, times-actor, working, known_of}
+use Rattle.spl_state.proofs.Replaced.{other_actor, each_actor, times-actor, working, known_of}
 use Rattle.spl_pack.proofs.Owners.{others_granted, none_granted, branch_holds, others_hold}
-use Rattle.spl_pack.proofs.Named.{same_map, same_live, sub_agrees, node_named, stands_in, same_split}
+use Rattle.spl_state.proofs.Named.{same_map, same_live, sub_agrees, node_named, stands_in, same_split}
 
 no_some : {A : Type 0} (o : Option A) (x : A) → o ≡ None → o ≡ Some x → ⊥
 no_some o x none some = cc

@@ -1,5 +1,5 @@
 -- What an incorporation answers, and what it makes of the state.
-use Rattle.std.specs.Prelude.{ℕ, ◌==◌, nat_lt, Bool, true, false, if◌then◌else◌, List, [], ◌∷◌, Option, Some, None, length, slice_set}
+use Rattle.std.specs.Prelude.{◌≡◌, ℕ, ◌==◌, nat_lt, Bool, true, false, if◌then◌else◌, List, [], ◌∷◌, Option, Some, None, length, slice_set}
 use Rattle.spl_bundle.specs.declared.bundles.TheConstants.{MAX_LISTS}
 use Rattle.spl_bundle.specs.Numbered.{pushed}
 use Rattle.spl_holds.specs.Grip.{is_write}
@@ -56,3 +56,7 @@ incorporated whole actor number = record whole {
   tables = without_oldest whole.tables;
   actors = slice_set whole.actors actor (with_job (actor_in whole.actors actor) None);
 }
+
+-- the branch that the actor packed hangs at the root
+abbrev pub IsIncorporated : Whole → ℕ → Whole → Type 0
+IsIncorporated old actor new = (packed : Packed) → ready_in old actor ≡ Some packed → new ≡ incorporated old actor packed.number

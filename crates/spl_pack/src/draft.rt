@@ -34,6 +34,8 @@ pub fn publish<B: Content>(parts: &mut Parts<B>, actor: u32, branch: Arc<B>) -> 
     ensures done { result ≡ Reply.Done → Publishes parts.old parts.new actor (B.number branch.value)
         (branch_data B.extents B.entries B.cuts B.table branch.value) }
     ensures refused { result ≢ Reply.Done → parts.new ≡ parts.old }
+    ensures steps { parts.new.counters.steps ≡ parts.old.counters.steps }
+    ensures places { parts.new.counters.places ≡ parts.old.counters.places }
 
     // The caller knows that the table is the one that the job asks for.
     ensures framed { (rule : Rule) → (B.TELLS ≡ true → AreDrafts rule parts.old)
@@ -99,6 +101,8 @@ pub fn incorporate<B: Content>(parts: &mut Parts<B>, actor: u32) -> Reply<B>
     ensures done { (packed : Packed) → ready_in parts.old actor ≡ Some packed
         → result ≡ Reply.Done → parts.new ≡ incorporated parts.old actor packed.number }
     ensures refused { result ≢ Reply.Done → parts.new ≡ parts.old }
+    ensures steps { parts.new.counters.steps ≡ parts.old.counters.steps }
+    ensures places { parts.new.counters.places ≡ parts.old.counters.places }
     ensures framed { (rule : Rule) → (B.TELLS ≡ true → AreDrafts rule parts.old) → IsFramed rule B.TELLS parts.old parts.new actor }
 {
     let Some(packed) = ready(parts, actor) else {

@@ -23,6 +23,8 @@ pub fn pick_frozen<B: Content>(parts: &mut Parts<B>, actor: u32) -> Reply<B>
     ensures done { (position number : ℕ) (table : Table) → first_unpicked parts.old.tables.frozen ≡ Some position
         → result ≡ Reply.Picked number table → parts.new ≡ picked_at parts.old actor position }
     ensures refused { ((number : ℕ) (table : Table) → result ≢ Reply.Picked number table) → parts.new ≡ parts.old }
+    ensures steps { parts.new.counters.steps ≡ parts.old.counters.steps }
+    ensures places { parts.new.counters.places ≡ parts.old.counters.places }
     ensures framed { (rule : Rule) → (B.TELLS ≡ true → AreDrafts rule parts.old) → IsFramed rule B.TELLS parts.old parts.new actor }
 {
     let state = parts.state(actor);
@@ -54,6 +56,8 @@ pub fn grant<B: Content>(parts: &mut Parts<B>, actor: u32) -> Reply<B>
     ensures answer { result ≡ grant_answer parts.old actor (extent_in result) }
     ensures done { (extent : ℕ) → result ≡ Reply.Granted extent → Grants parts.old parts.new actor extent }
     ensures refused { ((extent : ℕ) → result ≢ Reply.Granted extent) → parts.new ≡ parts.old }
+    ensures steps { parts.new.counters.steps ≡ parts.old.counters.steps }
+    ensures places { parts.new.counters.places ≡ parts.old.counters.places }
     ensures framed { (rule : Rule) → (B.TELLS ≡ true → AreDrafts rule parts.old) → IsFramed rule B.TELLS parts.old parts.new actor }
 {
     let state = parts.state(actor);

@@ -1,8 +1,9 @@
 -- What stands at a number, where branches are seen as plain data.
-use Rattle.std.proofs.Common.{◌≡◌, ℕ, List, [], ◌∷◌, map, Bool, true, false, cond, Option, Some, None, refl, sym, ap, ◌∙◌}
+use Rattle.std.proofs.Common.{◌≡◌, ℕ, [], ◌∷◌, map, Bool, true, false, cond, Option, Some, None, refl, ap, ◌∙◌}
 use Rattle.std.specs.Ordering.{nat_cmp}
 use Rattle.std.specs.BTreeMap.{is_at}
 use Rattle.std.specs.Option.{option_map}
+use Rattle.std.specs.Prelude.{unwrap_or}
 use Rattle.spl_refs.specs.Refs.{Published, held_at, branch_at, count_at}
 use Rattle.spl_state.specs.Whole.{BranchData}
 
@@ -31,3 +32,11 @@ module _ {B : Type 0} (data_of : B → BranchData) where
 
   pub none_seen : (refs : Published B) (number : ℕ) → held_at refs number ≡ None → held_at (all_seen refs) number ≡ None
   none_seen refs number none = held_seen refs number ∙ ap (λ (held : Option (ℕ × B)). option_map seen held) none
+
+  option_count : (held : Option (ℕ × B)) → unwrap_or (option_map (λ h. h.0) (option_map seen held)) 0 ≡ unwrap_or (option_map (λ h. h.0) held) 0
+  option_count None = refl
+  option_count (Some held) = refl
+
+  -- and it is named as often
+  pub count_seen : (refs : Published B) (number : ℕ) → count_at (all_seen refs) number ≡ count_at refs number
+  count_seen refs number = ap (λ (held : Option (ℕ × BranchData)). unwrap_or (option_map (λ h. h.0) held) 0) (held_seen refs number) ∙ option_count (held_at refs number)

@@ -16,6 +16,8 @@ pub fn retire<B: Content>(parts: &mut Parts<B>, actor: u32) -> Reply<B>
     requires known { actor < ACTORS }
     ensures answer { result ≡ retire_answer parts.old actor }
     ensures state { parts.new ≡ after_retire parts.old actor }
+    ensures steps { parts.new.counters.steps ≡ parts.old.counters.steps }
+    ensures places { parts.new.counters.places ≡ parts.old.counters.places }
     ensures framed { (rule : Rule) → (B.TELLS ≡ true → AreDrafts rule parts.old) → IsFramed rule B.TELLS parts.old parts.new actor }
 {
     let state = parts.state(actor);

@@ -39,6 +39,7 @@ pub fn put<B: Content, L: MergeLaw>(
         then act (L.rule law.now) other (meaning (L.rule law.now) parts.old other) message
         else meaning (L.rule law.now) parts.old other) }
     ensures others { (rule : Rule) → Others rule B.TELLS parts.old parts.new }
+    ensures steps { parts.new.counters.steps ≡ parts.old.counters.steps }
 {
     let place = parts.counters.places;
     match parts.tables.put(law, key, message) {
@@ -61,6 +62,7 @@ pub fn rotate<B: Content>(parts: &mut Parts<B>, actor: u32) -> Reply<B>
         → (result ≡ Reply.Rotated) ⊎ (result ≡ Reply.NoMemory) }
     ensures rotated { result ≡ Reply.Rotated → parts.new ≡ has_rotated parts.old }
     ensures refused { result ≢ Reply.Rotated → parts.new ≡ parts.old }
+    ensures counters { parts.new.counters ≡ parts.old.counters }
     ensures framed { (rule : Rule) → (B.TELLS ≡ true → AreDrafts rule parts.old) → IsFramed rule B.TELLS parts.old parts.new actor }
 {
     match parts.tables.rotate() {

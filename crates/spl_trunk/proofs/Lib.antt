@@ -6,3 +6,4 @@ pub mod Divided
 pub mod Steps
 pub mod Names
 pub mod Means
+pub mod Released

@@ -1,6 +1,6 @@
 -- What a contract sees of a trunk: its nodes, by their numbers.
-use Rattle.std.specs.Prelude.{ℕ, List, slice_index_or, slice_set}
-use Rattle.spl_bundle.specs.Numbered.{Numbered}
+use Rattle.std.specs.Prelude.{ℕ, List, map, slice_index_or, slice_set}
+use Rattle.spl_bundle.specs.Numbered.{Numbered, released}
 use Rattle.spl_node.specs.declared.pivot.Pivot.{Pivot}
 use Rattle.spl_node.specs.Node.{NodeData, bare}
 use Rattle.spl_node.specs.Steps.{fresh, with_lists, with_pivots}
@@ -26,3 +26,11 @@ with_pivots_at nodes number pivots = with_node nodes number (with_pivots (node_a
 
 abbrev pub with_lists_at : List NodeData → ℕ → Numbered → List NodeData
 with_lists_at nodes number lists = with_node nodes number (with_lists (node_at nodes number) lists)
+
+-- the node without a mark of the actor
+abbrev pub released_node : ℕ → NodeData → NodeData
+released_node actor node = with_lists node (released node.lists actor)
+
+-- the trunk in which no bundle has a mark of the actor
+abbrev pub all_released : List NodeData → ℕ → List NodeData
+all_released nodes actor = map (released_node actor) nodes

@@ -4,7 +4,7 @@ ghost use Rattle.std.specs.List.{insert};
 ghost use Rattle.spl_bundle.specs.Numbered.{next_of, pushed, merged, marked, released};
 ghost use Rattle.spl_node.specs.Node.{bare, pivot_at, AreRising, StartsIn, IsMark};
 ghost use Rattle.spl_node.specs.Steps.{fresh, with_mark, trimmed, IsSplitKey, left_of, lifted};
-ghost use Rattle.spl_trunk.specs.Trunk.{node_at, with_node, pivots_at, lists_at, with_pivots_at, with_lists_at};
+ghost use Rattle.spl_trunk.specs.Trunk.{node_at, with_node, pivots_at, lists_at, with_pivots_at, with_lists_at, all_released};
 ghost use Rattle.spl_trunk.specs.Tree.{IsShaped};
 
 use crate::grow::Grow;
@@ -176,6 +176,14 @@ impl Trunk {
         self.nodes[node as usize].release(actor);
     }
 
+    /// Clears every mark of the actor in every node.
+    pub fn release_all(&mut self, actor: u32)
+        ensures value { self.new ≡ all_released self.old actor }
+        ensures shaped { IsShaped self.old → IsShaped self.new }
+    {
+        release_all(self.nodes.as_mut_slice(), actor);
+    }
+
     /// Leaves the part of the node below the key.
     pub fn keep_left(&mut self, node: u32, key: &Key)
         requires exists { node < length self.old }
@@ -203,5 +211,14 @@ impl Trunk {
         ensures shaped { IsShaped self.old → IsShaped self.new }
     {
         self.nodes[node as usize].trim();
+    }
+}
+
+/// Clears every mark of the actor in the nodes.
+fn release_all(nodes: &mut [Node], actor: u32)
+    ensures { nodes.new ≡ all_released nodes.old actor }
+{
+    for node in nodes.iter_mut() {
+        node.release(actor);
     }
 }

@@ -4,7 +4,7 @@ use Rattle.spl_trunk.specs.Trunk.{node_at}
 use Rattle.spl_state.specs.Bounds.{AreBelow}
 use Rattle.spl_state.specs.Whole.{Whole}
 use Rattle.spl_pack.specs.Incorporating.{ready_in, older_than}
-use Rattle.spl_pack.proofs.Replaced.{where_done}
+use Rattle.spl_pack.proofs.Results.{where_done}
 use Rattle.spl_pack.proofs.Incorporates.{is_full, flush_answers, incorporate_sound, incorporate_framed, no_push_framed}
 use Rattle.spl_pack.proofs.draft.incorporate.Goals as goal
 

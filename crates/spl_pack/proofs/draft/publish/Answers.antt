@@ -9,7 +9,7 @@ use Rattle.spl_state.specs.Whole.{Whole}
 use Rattle.spl_state.proofs.Frames.{unchanged_framed}
 use Rattle.spl_state.proofs.Views.{all_seen}
 use Rattle.spl_pack.specs.Publishing.{MayPublish, held_all}
-use Rattle.spl_pack.proofs.Replaced.{where_done, where_failed}
+use Rattle.spl_pack.proofs.Results.{where_done, where_failed}
 use Rattle.spl_pack.proofs.Publishes.{sets_seen, publish_sound, publish_framed, publish_done, no_publish_framed, none_held, is_new}
 use Rattle.spl_pack.proofs.draft.publish.Goals as goal
 

@@ -1,0 +1,5 @@
+pub mod Marks
+pub mod Owners
+pub mod Frozen
+pub mod Abandons
+pub mod Ends

@@ -1,0 +1,9 @@
+pub mod Moves
+pub mod Ends
+pub mod Places
+pub mod Arrivals
+pub mod Named
+pub mod Rights
+pub mod Read
+pub mod Begins
+pub mod Downs
