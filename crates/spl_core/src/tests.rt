@@ -6,6 +6,7 @@ use crate::{Core, Step};
 use spl_base::ACTORS;
 use spl_message::{Content, HashedKey, Key, Message, Newest, Span};
 use spl_state::Reply;
+use std::sync::Arc;
 use std::test::Fail;
 
 const EVERYTHING: Span = Span {
@@ -13,18 +14,21 @@ const EVERYTHING: Span = Span {
     to: None,
 };
 
-/// A branch without keys and extents.
+/// A branch in one extent, of which nothing is told.
 #[derive(Drop)]
-struct Bare;
+struct Thin {
+    number: u64,
+    extents: [u32; 1],
+}
 
-impl Content for Bare {
+impl Content for Thin {
     ghost TELLS = { false };
 
     ghost table = { λ _. as_table [] };
 
-    ghost number = { λ _. 0 };
+    ghost number = { λ thin. thin.number };
 
-    ghost extents = { λ _. [] };
+    ghost extents = { λ thin. thin.extents };
 
     ghost entries = { λ _. 0 };
 
@@ -33,11 +37,11 @@ impl Content for Bare {
     ghost reach = { λ _ _. 0 };
 
     fn number(&self) -> u64 {
-        0
+        self.number
     }
 
     fn extents(&self) -> &[u32] {
-        &[]
+        &self.extents
     }
 
     fn entries(&self) -> u64 {
@@ -54,7 +58,7 @@ impl Content for Bare {
 }
 
 /// Makes a step of a core that has made few.
-fn make(core: &mut Core<Bare, Newest>, actor: u32, step: Step<Bare>) -> Result<Reply<Bare>, Fail>
+fn make(core: &mut Core<Thin, Newest>, actor: u32, step: Step<Thin>) -> Result<Reply<Thin>, Fail>
     requires { actor < ACTORS }
 {
     if core.steps() >= 1 << 46 {
@@ -68,23 +72,94 @@ fn a_reader_on_the_root_keeps_a_claim_from_being_a_write(rt: HostRuntime) -> Res
     let mut core = Core::new(rt.alloc(), 4, 1, Newest)?;
     let key = Key::read(b"a")?;
     let message = Message::Delete;
-    assert!(rt; matches!(make(&mut core, 0, Step::Put { key, message })?, Reply::Placed { place: 0 }));
+    assert!(rt;
+        matches!(
+            make(&mut core, 0, Step::Put { key, message })?,
+            Reply::Placed { place: 0 }
+        )
+    );
     assert!(rt; matches!(make(&mut core, 0, Step::Rotate)?, Reply::NotFull));
     let sight = match make(&mut core, 5, Step::Begin { span: EVERYTHING })? {
         Reply::Sight(sight) => sight,
         _ => return Err("a descent begins with no sight".into()),
     };
     assert_eq!(rt; (sight.place, sight.node, sight.leaf), (1, 0, true));
-    assert_eq!(rt; (sight.tables.as_slice().len(), sight.branches.as_slice().len()), (1, 0));
+    assert_eq!(rt;
+        (
+            sight.tables.as_slice().len(),
+            sight.branches.as_slice().len()
+        ),
+        (1, 0)
+    );
     assert!(rt; matches!(make(&mut core, 5, Step::MoveDown)?, Reply::Leaf));
     assert!(rt; matches!(make(&mut core, 7, Step::Claim { node: 0 })?, Reply::Done));
-    assert!(rt; matches!(make(&mut core, 7, Step::Lock { node: 0 })?, Reply::Again { node: 0, by: 5 }));
+    assert!(rt;
+        matches!(
+            make(&mut core, 7, Step::Lock { node: 0 })?,
+            Reply::Again { node: 0, by: 5 }
+        )
+    );
     assert!(rt; matches!(make(&mut core, 5, Step::End)?, Reply::Done));
     assert!(rt; matches!(make(&mut core, 7, Step::Lock { node: 0 })?, Reply::Done));
     assert!(rt; matches!(make(&mut core, 7, Step::PickFrozen)?, Reply::Nothing));
     assert!(rt; matches!(make(&mut core, 7, Step::Grant)?, Reply::Unfit { .. }));
     assert!(rt; matches!(make(&mut core, 7, Step::Abandon)?, Reply::Done));
-    assert!(rt; matches!(make(&mut core, 7, Step::Retire)?, Reply::Retired { running: 0 }));
+    assert!(rt;
+        matches!(
+            make(&mut core, 7, Step::Retire)?,
+            Reply::Retired { running: 0 }
+        )
+    );
     assert_eq!(rt; core.steps(), 12);
+    Ok(())
+}
+
+/// Puts so many keys.
+fn put_keys(core: &mut Core<Thin, Newest>, count: u16) -> Result<(), Fail> {
+    for number in 0..count {
+        let key = Key::read(&number.to_be_bytes())?;
+        let message = Message::Delete;
+        make(core, 0, Step::Put { key, message })?;
+    }
+    Ok(())
+}
+
+#[test]
+fn a_full_memtable_becomes_a_branch_of_the_root(rt: HostRuntime) -> Result<(), Fail> {
+    let mut core = Core::new(rt.alloc(), 1, 1, Newest)?;
+    put_keys(&mut core, 1024)?;
+    assert!(rt; matches!(make(&mut core, 0, Step::Rotate)?, Reply::Rotated));
+    assert!(rt;
+        matches!(
+            make(&mut core, 2, Step::PickFrozen)?,
+            Reply::Picked { number: 0, .. }
+        )
+    );
+    assert!(rt; matches!(make(&mut core, 3, Step::PickFrozen)?, Reply::Nothing));
+    assert!(rt;
+        matches!(
+            make(&mut core, 2, Step::Grant)?,
+            Reply::Granted { extent: 0 }
+        )
+    );
+    assert!(rt; matches!(make(&mut core, 2, Step::Grant)?, Reply::NoExtent));
+    let branch = Arc::new(
+        rt.alloc(),
+        Thin {
+            number: 0,
+            extents: [0],
+        },
+    )?;
+    assert!(rt; matches!(make(&mut core, 2, Step::Publish { branch })?, Reply::Done));
+    assert!(rt; matches!(make(&mut core, 2, Step::Incorporate)?, Reply::Unfit { .. }));
+    assert!(rt; matches!(make(&mut core, 2, Step::Claim { node: 0 })?, Reply::Done));
+    assert!(rt; matches!(make(&mut core, 2, Step::Lock { node: 0 })?, Reply::Done));
+    assert!(rt; matches!(make(&mut core, 2, Step::Incorporate)?, Reply::Done));
+    assert!(rt; matches!(make(&mut core, 2, Step::Unlock { node: 0 })?, Reply::Done));
+    let sight = match make(&mut core, 4, Step::Begin { span: EVERYTHING })? {
+        Reply::Sight(sight) => sight,
+        _ => return Err("a descent begins with no sight".into()),
+    };
+    assert_eq!(rt; (sight.place, sight.branches.as_slice().len()), (1024, 1));
     Ok(())
 }
