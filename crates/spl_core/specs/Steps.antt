@@ -7,7 +7,7 @@ use Rattle.spl_message.specs.declared.span.Span.{Span}
 use Rattle.spl_message.specs.Table.{Table, key_count, part_of}
 use Rattle.spl_holds.specs.declared.grip.Grip.TheVariants as grip
 use Rattle.spl_state.specs.declared.reply.Reply.{Reply}
-use Rattle.spl_state.specs.declared.reply.Reply.TheVariants.{Done, Placed, Rotated, Picked, Granted, MemFull, NotFull, FrozenFull, Unfit, NoMemory}
+use Rattle.spl_state.specs.declared.reply.Reply.TheVariants.{Done, Placed, Rotated, Picked, Granted, MemFull, NotFull, FrozenFull, Unfit, NoNode, NoMemory}
 use Rattle.spl_tables.specs.Memtables.{first_unpicked, tables_of}
 use Rattle.spl_state.specs.Actor.{actor_in}
 use Rattle.spl_state.specs.Reply.{state_of}
@@ -15,6 +15,7 @@ use Rattle.spl_state.specs.Whole.{BranchData, Whole}
 use Rattle.spl_abandon.specs.Abandoning.{HasAbandoned}
 use Rattle.spl_descent.specs.Descents.{first_descent, next_descent, begin_refusal, begun, move_refusal, moved_down, end_answer, ended}
 use Rattle.spl_descent.specs.Sights.{IsSightOf, OnSight, IfSight, Answers}
+use Rattle.spl_survey.specs.Surveys.{IsViewOf, OnView, IfView, surveyed}
 use Rattle.spl_pack.specs.Granting.{extent_in, grant_answer, Grants}
 use Rattle.spl_pack.specs.Incorporating.{incorporate_answer, IsIncorporated}
 use Rattle.spl_pack.specs.Picking.{pick_answer, picked_at}
@@ -23,7 +24,7 @@ use Rattle.spl_steps.specs.Latching.{claim_answer, lock_answer, unlock_answer, g
 use Rattle.spl_steps.specs.Memory.{HasPut, has_rotated}
 use Rattle.spl_steps.specs.Retiring.{retire_answer, after_retire}
 use Rattle.spl_core.specs.declared.step.Step.{Step}
-use Rattle.spl_core.specs.declared.step.Step.TheVariants.{Put, Rotate, Begin, MoveDown, End, Claim, Lock, Unlock, PickFrozen, Grant, Publish, Incorporate, Abandon, Retire}
+use Rattle.spl_core.specs.declared.step.Step.TheVariants.{Put, Rotate, Begin, MoveDown, End, Claim, Lock, Unlock, PickFrozen, Grant, Publish, Incorporate, Survey, Abandon, Retire}
 
 module _ {B : Type 0} where
   pub record IsPut (rule : Rule) (old : Whole) (key : List ℕ) (message : Message) (reply : Reply B) (new : Whole) : Type 0 where
@@ -78,6 +79,12 @@ module _ {B : Type 0} where
     pub sight : IfSome (actor_in old.actors actor).descent (λ descent. IfSight reply (IsSightOf number_of data_of old (next_descent old descent)))
     pub tables : IfSight reply (λ sight. sight.tables ≡ [])
 
+  pub record IsSurvey (old : Whole) (actor node : ℕ) (reply : Reply B) (new : Whole) : Type 0 where
+    pub unknown : length old.nodes ≤ node → reply ≡ NoNode (length old.nodes)
+    pub answer : node < length old.nodes → OnView reply (λ view. Unit {0}) (reply ≡ NoMemory)
+    pub view : IfView reply (IsViewOf old node)
+    pub state : OnView reply (λ view. new ≡ surveyed old actor node) (new ≡ old)
+
   -- one step of the actor
   abbrev pub IsStep : (B → ℕ) → (B → BranchData) → Rule → Whole → ℕ → Step B → Reply B → Whole → Type 0
   IsStep number_of data_of rule old actor (Put key message) reply new = IsPut rule old key message reply new
@@ -92,5 +99,6 @@ module _ {B : Type 0} where
   IsStep number_of data_of rule old actor Grant reply new = IsGrant old actor reply new
   IsStep number_of data_of rule old actor (Publish branch) reply new = IsPublication (data_of branch.value) old actor (number_of branch.value) reply new
   IsStep number_of data_of rule old actor Incorporate reply new = IsIncorporation old actor reply new
+  IsStep number_of data_of rule old actor (Survey node) reply new = IsSurvey old actor node reply new
   IsStep number_of data_of rule old actor Abandon reply new = (reply ≡ Done) × HasAbandoned old new actor
   IsStep number_of data_of rule old actor Retire reply new = (reply ≡ retire_answer old actor) × (new ≡ after_retire old actor)

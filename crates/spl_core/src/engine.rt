@@ -18,6 +18,7 @@ use spl_extent::EXTENTS;
 use spl_message::{Content, MergeLaw};
 use spl_pack::{grant, incorporate, pick_frozen, publish};
 use spl_state::{Parts, Reply};
+use spl_survey::survey;
 use spl_steps::{claim, lock, put, retire, rotate, unlock};
 use std::alloc::Global;
 
@@ -82,6 +83,7 @@ impl<B: Content, L: MergeLaw> Core<B, L> {
             Step::Grant => grant(&mut self.parts, actor),
             Step::Publish { branch } => publish(&mut self.parts, actor, branch),
             Step::Incorporate => incorporate(&mut self.parts, actor),
+            Step::Survey { node } => survey(self.alloc, &mut self.parts, actor, node),
             Step::Abandon => abandon(&mut self.parts, actor),
             Step::Retire => retire(&mut self.parts, actor),
         }

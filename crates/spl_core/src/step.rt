@@ -28,6 +28,8 @@ pub enum Step<B: Content> {
     Publish { branch: Arc<B> },
     /// Hangs the published branch at the root, in the place of its memtable.
     Incorporate,
+    /// Asks what the node holds.
+    Survey { node: u32 },
     /// Gives back all that the actor has.
     Abandon,
     /// Counts one running caller less.

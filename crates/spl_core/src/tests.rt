@@ -99,6 +99,12 @@ fn a_reader_on_the_root_keeps_a_claim_from_being_a_write(rt: HostRuntime) -> Res
             Reply::Again { node: 0, by: 5 }
         )
     );
+    assert!(rt; matches!(make(&mut core, 7, Step::Survey { node: 1 })?, Reply::NoNode { nodes: 1 }));
+    let view = match make(&mut core, 7, Step::Survey { node: 0 })? {
+        Reply::View(view) => view,
+        _ => return Err("the root is not shown".into()),
+    };
+    assert_eq!(rt; (view.height, view.split, view.running), (0, None, 1));
     assert!(rt; matches!(make(&mut core, 5, Step::End)?, Reply::Done));
     assert!(rt; matches!(make(&mut core, 7, Step::Lock { node: 0 })?, Reply::Done));
     assert!(rt; matches!(make(&mut core, 7, Step::PickFrozen)?, Reply::Nothing));
@@ -110,7 +116,7 @@ fn a_reader_on_the_root_keeps_a_claim_from_being_a_write(rt: HostRuntime) -> Res
             Reply::Retired { running: 0 }
         )
     );
-    assert_eq!(rt; core.steps(), 12);
+    assert_eq!(rt; core.steps(), 14);
     Ok(())
 }
 

@@ -162,3 +162,14 @@ returns-in-PickFrozen-clause-step g c =
     } in
     let counted = subst (λ (w : Whole). IsPick w c.args.actor c.pick_frozen.result c.pick_frozen.new.parts) c.count.ensures.counted pick in
     subst (λ (s : Step g.row.B.Denot). IsStep g.B.Content.number (branch_data g.B.Content.extents g.B.Content.entries g.B.Content.cuts g.B.Content.table) (g.L.MergeLaw.rule c.args.self.now.law) (refused c.args.self.now.parts) c.args.actor s c.pick_frozen.result c.pick_frozen.new.parts) (sym c.in-PickFrozen.is) counted
+
+pub returns-in-Survey-clause-stands : goal.returns-in-Survey-clause-stands
+returns-in-Survey-clause-stands g c = λ history stands.
+    let here = stands_framed (g.L.MergeLaw.rule c.args.self.now.law) _ _ _ c.survey.new.parts c.args.actor c.count.ensures.counted (c.survey.ensures.framed (g.L.MergeLaw.rule c.args.self.now.law)) (ap (λ (n : Counters). n.places) c.survey.ensures.counters) history stands in
+    subst (λ (s : Step g.row.B.Denot). StandsFor (g.L.MergeLaw.rule c.args.self.now.law) g.B.Content.TELLS c.survey.new.parts (history ++ called c.args.actor s c.survey.result)) (sym c.in-Survey.is) here
+
+pub returns-in-Survey-clause-others : goal.returns-in-Survey-clause-others
+returns-in-Survey-clause-others g c = others_framed (g.L.MergeLaw.rule c.args.self.now.law) _ _ _ c.survey.new.parts c.args.actor c.count.ensures.counted (c.survey.ensures.framed (g.L.MergeLaw.rule c.args.self.now.law))
+
+pub returns-in-Survey-clause-counted : goal.returns-in-Survey-clause-counted
+returns-in-Survey-clause-counted g c = ap (λ (n : Counters). n.steps) c.survey.ensures.counters ∙ ap (λ (w : Whole). w.counters.steps) c.count.ensures.counted
