@@ -18,8 +18,8 @@ use spl_extent::EXTENTS;
 use spl_message::{Content, MergeLaw};
 use spl_pack::{grant, incorporate, pick_frozen, publish};
 use spl_state::{Parts, Reply};
-use spl_survey::survey;
 use spl_steps::{claim, lock, put, retire, rotate, unlock};
+use spl_survey::survey;
 use std::alloc::Global;
 
 /// The state of a store with the law by which its updates are merged.

@@ -99,7 +99,12 @@ fn a_reader_on_the_root_keeps_a_claim_from_being_a_write(rt: HostRuntime) -> Res
             Reply::Again { node: 0, by: 5 }
         )
     );
-    assert!(rt; matches!(make(&mut core, 7, Step::Survey { node: 1 })?, Reply::NoNode { nodes: 1 }));
+    assert!(rt;
+        matches!(
+            make(&mut core, 7, Step::Survey { node: 1 })?,
+            Reply::NoNode { nodes: 1 }
+        )
+    );
     let view = match make(&mut core, 7, Step::Survey { node: 0 })? {
         Reply::View(view) => view,
         _ => return Err("the root is not shown".into()),
