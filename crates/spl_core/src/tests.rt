@@ -6,7 +6,6 @@ use crate::{Core, Step};
 use spl_base::ACTORS;
 use spl_message::{Content, HashedKey, Key, Message, Newest, Span};
 use spl_state::Reply;
-use std::sync::Arc;
 use std::test::Fail;
 
 const EVERYTHING: Span = Span {
@@ -122,55 +121,5 @@ fn a_reader_on_the_root_keeps_a_claim_from_being_a_write(rt: HostRuntime) -> Res
         )
     );
     assert_eq!(rt; core.steps(), 14);
-    Ok(())
-}
-
-/// Puts so many keys.
-fn put_keys(core: &mut Core<Thin, Newest>, count: u16) -> Result<(), Fail> {
-    for number in 0..count {
-        let key = Key::read(&number.to_be_bytes())?;
-        let message = Message::Delete;
-        make(core, 0, Step::Put { key, message })?;
-    }
-    Ok(())
-}
-
-#[test]
-fn a_full_memtable_becomes_a_branch_of_the_root(rt: HostRuntime) -> Result<(), Fail> {
-    let mut core = Core::new(rt.alloc(), 1, 1, Newest)?;
-    put_keys(&mut core, 1024)?;
-    assert!(rt; matches!(make(&mut core, 0, Step::Rotate)?, Reply::Rotated));
-    assert!(rt;
-        matches!(
-            make(&mut core, 2, Step::PickFrozen)?,
-            Reply::Picked { number: 0, .. }
-        )
-    );
-    assert!(rt; matches!(make(&mut core, 3, Step::PickFrozen)?, Reply::Nothing));
-    assert!(rt;
-        matches!(
-            make(&mut core, 2, Step::Grant)?,
-            Reply::Granted { extent: 0 }
-        )
-    );
-    assert!(rt; matches!(make(&mut core, 2, Step::Grant)?, Reply::NoExtent));
-    let branch = Arc::new(
-        rt.alloc(),
-        Thin {
-            number: 0,
-            extents: [0],
-        },
-    )?;
-    assert!(rt; matches!(make(&mut core, 2, Step::Publish { branch })?, Reply::Done));
-    assert!(rt; matches!(make(&mut core, 2, Step::Incorporate)?, Reply::Unfit { .. }));
-    assert!(rt; matches!(make(&mut core, 2, Step::Claim { node: 0 })?, Reply::Done));
-    assert!(rt; matches!(make(&mut core, 2, Step::Lock { node: 0 })?, Reply::Done));
-    assert!(rt; matches!(make(&mut core, 2, Step::Incorporate)?, Reply::Done));
-    assert!(rt; matches!(make(&mut core, 2, Step::Unlock { node: 0 })?, Reply::Done));
-    let sight = match make(&mut core, 4, Step::Begin { span: EVERYTHING })? {
-        Reply::Sight(sight) => sight,
-        _ => return Err("a descent begins with no sight".into()),
-    };
-    assert_eq!(rt; (sight.place, sight.branches.as_slice().len()), (1024, 1));
     Ok(())
 }
