@@ -7,8 +7,6 @@
 mod callers;
 mod latch;
 mod memory;
-#[cfg(test)]
-mod tests;
 
 pub use callers::retire;
 pub use latch::{claim, lock, unlock};
