@@ -18,7 +18,7 @@ use Rattle.spl_descent.specs.Sights.{IsSightOf, OnSight, IfSight, Answers}
 use Rattle.spl_survey.specs.Surveys.{IsViewOf, OnView, IfView, surveyed}
 use Rattle.spl_pack.specs.Granting.{extent_in, grant_answer, Grants}
 use Rattle.spl_pack.specs.Incorporating.{incorporate_answer, IsIncorporated}
-use Rattle.spl_pack.specs.Picking.{pick_answer, picked_at}
+use Rattle.spl_pack.specs.Picking.{pick_answer, MayPick, picked_at}
 use Rattle.spl_pack.specs.Publishing.{MayPublish, Publishes}
 use Rattle.spl_steps.specs.Latching.{claim_answer, lock_answer, unlock_answer, gripped}
 use Rattle.spl_steps.specs.Memory.{HasPut, has_rotated}
@@ -48,6 +48,7 @@ module _ {B : Type 0} where
 
   pub record IsPick (old : Whole) (actor : ℕ) (reply : Reply B) (new : Whole) : Type 0 where
     pub answer : reply ≢ NoMemory → reply ≡ pick_answer old actor
+    pub memory : reply ≡ NoMemory → MayPick old actor
     pub done : (position number : ℕ) (table : Table) → first_unpicked old.tables.frozen ≡ Some position → reply ≡ Picked number table → new ≡ picked_at old actor position
     pub refused : ((number : ℕ) (table : Table) → reply ≢ Picked number table) → new ≡ old
 

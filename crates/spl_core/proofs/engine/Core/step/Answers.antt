@@ -157,6 +157,7 @@ pub returns-in-PickFrozen-clause-step : goal.returns-in-PickFrozen-clause-step
 returns-in-PickFrozen-clause-step g c =
     let pick : IsPick c.count.new.self c.args.actor c.pick_frozen.result c.pick_frozen.new.parts = record {
       answer = c.pick_frozen.ensures.answer;
+      memory = c.pick_frozen.ensures.memory;
       done = c.pick_frozen.ensures.done;
       refused = c.pick_frozen.ensures.refused;
     } in
