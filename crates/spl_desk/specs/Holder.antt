@@ -9,6 +9,9 @@ pub record BranchKind (B : Type 0) : Type 0 where
   pub data_of : B → BranchData
   pub tells : Bool
 
+abbrev pub kind_of : {B : Type 0} → (B → ℕ) → (B → BranchData) → Bool → BranchKind B
+kind_of number_of data_of tells = record { number_of = number_of; data_of = data_of; tells = tells }
+
 pub record Holder : Type 0 where
   -- nobody else makes steps of the core
   pub alone : Bool

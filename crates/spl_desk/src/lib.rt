@@ -6,4 +6,4 @@
 
 mod turns;
 
-pub use turns::Turns;
+pub use turns::{Exchange, Turns, take_turn};
