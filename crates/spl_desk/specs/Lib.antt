@@ -1,3 +1,4 @@
+pub mod Calls
 pub mod Holder
 pub mod Turn
 pub mod Walk

@@ -4,6 +4,10 @@
 //! it was, and the history that it has seen only grows (`specs/Turn.antt`). What a whole call did is the list of its turns (`specs/Walk.antt`).
 #![tactic(auto)]
 
+mod desk;
+mod fault;
 mod turns;
 
+pub use desk::Desk;
+pub use fault::CallFault;
 pub use turns::{Exchange, Turns, take_turn};

@@ -1,0 +1,10 @@
+use std::alloc::Global;
+
+/// What a call of the store works with: the turns of one actor, the device of its thread, what stands between the two, and the law.
+pub struct Desk<'a, T, P, G, L> {
+    pub alloc: Global,
+    pub turns: T,
+    pub port: &'a mut P,
+    pub pager: &'a G,
+    pub law: &'a L,
+}
