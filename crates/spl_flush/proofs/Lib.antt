@@ -1,0 +1,5 @@
+pub mod Queues
+pub mod Holds
+pub mod Trims
+pub mod Nodes
+pub mod Flushes
