@@ -76,11 +76,13 @@ module _ {B : Type 0} (extents_of : B → List ℕ) (mentions list : List ℕ) (
         let is = counts n in
         let before = was.counts n in
         omega arith;
-    stands = λ n. subst (λ (o : Option B). IsSome o ↔ (0 < count_at now n)) (sym (branches n))
-        ((λ some. let above = (was.stands n).0 some in let is = counts n in omega arith), λ above. (was.stands n).1 (elim (cases_lt 0 (times n list)) [
-          | inl named ↦ let some = there n named in let before = was.counts n in omega arith
-          | inr none ↦ let is = counts n in omega arith
-        ]));
+    stands = λ n. subst (λ (o : Option B). IsSome o ↔ (0 < count_at now n)) (sym (branches n)) (
+      (λ some. let above = (was.stands n).0 some in let is = counts n in omega arith),
+      λ above. (was.stands n).1 (elim (cases_lt 0 (times n list)) [
+        | inl named ↦ let some = there n named in let before = was.counts n in omega arith
+        | inr none ↦ let is = counts n in omega arith
+      ]),
+    );
     held = λ n. rw (branches n) (was.held n);
     not_held = λ n extent none. was.not_held n extent (sym (branches n) ∙ none);
   }

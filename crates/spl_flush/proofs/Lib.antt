@@ -3,3 +3,4 @@ pub mod Holds
 pub mod Trims
 pub mod Nodes
 pub mod Flushes
+pub mod Ends

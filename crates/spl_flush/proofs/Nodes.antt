@@ -253,3 +253,14 @@ module _ (nodes : List NodeData) (shaped : IsShaped nodes) (parent pivot child :
       all_nodes (λ (node : NodeData). node.generation ≤ steps) (of parent exists)
       (subst (λ (generation : ℕ). generation ≤ steps) (sym (received_parts (λ (node : NodeData). node.generation) to live refl)) (of child there))
       all
+
+  -- the calls make these nodes, first of the child and then of the parent
+  module _ (middle : List NodeData) (made : middle ≡ between) where
+    pub parent_stays : node_at middle parent ≡ from
+    parent_stays = ap (λ (ns : List NodeData). node_at ns parent) made ∙ from_between
+
+    pub flushed_made : (end : List NodeData) → end ≡ set middle parent (passed (node_at middle parent) pivot) → end ≡ after
+    flushed_made end is =
+        is
+        ∙ ap (λ (node : NodeData). set middle parent (passed node pivot)) parent_stays
+        ∙ ap (λ (ns : List NodeData). set ns parent (passed from pivot)) made

@@ -60,7 +60,13 @@ pub fn flush<B: Content>(parts: &mut Parts<B>, actor: u32, parent: u32, child: u
         return Reply::NeedsCompact { branches };
     }
     receive(&mut parts.trunk, &mut parts.refs, parent, pivot, child);
-    pass(&mut parts.trunk, &mut parts.refs, &mut parts.pool, parent, pivot);
+    pass(
+        &mut parts.trunk,
+        &mut parts.refs,
+        &mut parts.pool,
+        parent,
+        pivot,
+    );
     Reply::Done
 }
 
@@ -140,13 +146,7 @@ fn joined(lists: &Bundles, mark: u64) -> ArrayVec<u64, MAX_BRANCHES>
 }
 
 /// Leaves nothing live for the pivot, and lets go of the bundles that no pivot has live any more.
-fn pass<B: Content>(
-    trunk: &mut Trunk,
-    refs: &mut Refs<B>,
-    pool: &mut Pool,
-    node: u32,
-    pivot: u32,
-)
+fn pass<B: Content>(trunk: &mut Trunk, refs: &mut Refs<B>, pool: &mut Pool, node: u32, pivot: u32)
     requires exists { node < length trunk.old }
     requires within { pivot < length (node_at trunk.old node).pivots }
     requires mark { (pivot_at (node_at trunk.old node).pivots pivot).mark ≤ next_of (node_at trunk.old node).lists }

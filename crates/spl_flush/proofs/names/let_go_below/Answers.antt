@@ -18,7 +18,7 @@ let_go_all-requires g c =
     record {
       accounted = (
         rest ++ c.requires.accounted.0,
-        subst (λ (m : List ℕ). AreAccounted g.B.Content.extents m c.loop-dropped.refs c.loop-dropped.pool) (ap (λ (list : List ℕ). list ++ c.requires.accounted.0) split ∙ append_assoc c.list.result.now rest c.requires.accounted.0) there
+        subst (λ (m : List ℕ). AreAccounted g.B.Content.extents m c.loop-dropped.refs c.loop-dropped.pool) (ap (λ (list : List ℕ). list ++ c.requires.accounted.0) split ∙ append_assoc c.list.result.now rest c.requires.accounted.0) there,
       );
     }
 
