@@ -1,23 +1,17 @@
 -- What the calls of the step make of a state, from the branches themselves to the whole.
-use Rattle.std.proofs.Common.{◌≡◌, ℕ, ◌+◌, ◌<◌, ◌≤◌, ◌^◌, ◌++◌, Bool, true, List, Option, Some, None, flat_map, length, refl, sym, ap, subst, ◌∙◌, arith}
+use Rattle.std.proofs.Common.{◌≡◌, ℕ, ◌+◌, ◌<◌, ◌≤◌, ◌^◌, ◌++◌, Bool, true, List, Option, Some, None, flat_map, length, set, refl, sym, ap, subst, ◌∙◌, arith}
 use Rattle.std.specs.Prelude.{IsSome}
 use Rattle.std.specs.Option.{option_map}
-use Rattle.std.proofs.lemmas.Bool.{eqb-true, false≢true}
 use Rattle.std.proofs.lemmas.List.Elements.{All-get_or}
-use Rattle.std.proofs.lemmas.List.Quantifiers.{position-Some}
-use Rattle.spl_bundle.specs.Numbered.{names, next_of}
+use Rattle.spl_bundle.specs.Numbered.{next_of}
 use Rattle.spl_message.specs.Rule.{Rule}
 use Rattle.spl_extent.specs.declared.owner.Owner.{Owner}
 use Rattle.spl_extent.specs.Pool.{granted_to}
-use Rattle.spl_holds.specs.declared.grip.Grip.{Grip}
-use Rattle.spl_holds.specs.declared.grip.Grip.TheVariants.{Free, Read, Claim, Write}
-use Rattle.spl_holds.specs.Grip.{is_write}
-use Rattle.spl_holds.specs.Holds.{grip_of}
-use Rattle.spl_node.specs.declared.pivot.Pivot.{Pivot}
 use Rattle.spl_node.specs.Node.{NodeData, bare, pivot_at, live_at, IsNode}
 use Rattle.spl_node.specs.Steps.{fresh}
 use Rattle.spl_node.proofs.Lives.{mark_at}
 use Rattle.spl_refs.specs.Refs.{Published, held_at, branch_at, count_at}
+use Rattle.spl_trunk.specs.Moves.{passed, received}
 use Rattle.spl_trunk.specs.Trunk.{node_at}
 use Rattle.spl_trunk.specs.Tree.{times, named, IsShaped}
 use Rattle.spl_trunk.proofs.Counts.{times-append}
@@ -30,39 +24,11 @@ use Rattle.spl_state.specs.Whole.{BranchData, Whole, counts}
 use Rattle.spl_state.proofs.Accounts.{accounts_seen, accounts_there, renamed}
 use Rattle.spl_state.proofs.Named.{live_named, node_named}
 use Rattle.spl_state.proofs.Views.{all_seen, branch_seen, count_seen}
-use Rattle.spl_flush.specs.Flushing.{is_to, pivot_to, writes, dead_names, flushed, IsFlushed, AreFew}
-use Rattle.spl_flush.proofs.Flushes.{handed, left, as_often, handed_sound, handed_framed, is_flushed}
+use Rattle.spl_flush.specs.Flushing.{dead_names, IsFlushed, AreFew}
+use Rattle.spl_flush.proofs.Flushes.{left, as_often, handed_sound, handed_framed, is_flushed}
 use Rattle.spl_flush.proofs.Holds.{times_few, accounted_more}
-
--- what the answer's tests tell
-pub record IsReady (whole : Whole) (actor parent pivot child : ℕ) : Type 0 where
-  pub writes_parent : grip_of whole.grips actor parent ≡ Write
-  pub writes_child : grip_of whole.grips actor child ≡ Write
-  pub exists : parent < length whole.nodes
-  pub within : pivot < length (node_at whole.nodes parent).pivots
-  pub leads : (pivot_at (node_at whole.nodes parent).pivots pivot).child ≡ Some child
-
-is_writing : (grip : Grip) → is_write grip ≡ true → grip ≡ Write
-is_writing Write is = refl
-is_writing Free is = absurd (false≢true is)
-is_writing Read is = absurd (false≢true is)
-is_writing Claim is = absurd (false≢true is)
-
-leads_to : (o : Option ℕ) (child : ℕ) → is_to child o ≡ true → o ≡ Some child
-leads_to None child is = absurd (false≢true is)
-leads_to (Some other) child is = ap (λ (n : ℕ). Some n) (eqb-true other child is)
-
-pub is_ready : (whole : Whole) (actor parent pivot child : ℕ) → writes whole actor parent ≡ true → writes whole actor child ≡ true → parent < length whole.nodes → pivot_to (node_at whole.nodes parent).pivots child ≡ Some pivot → IsReady whole actor parent pivot child
-is_ready whole actor parent pivot child parent_written child_written exists found =
-    let pivots = (node_at whole.nodes parent).pivots in
-    let at = position-Some (λ (p : Pivot). is_to child p.child) pivots pivot bare found in
-    record {
-      writes_parent = is_writing (grip_of whole.grips actor parent) parent_written;
-      writes_child = is_writing (grip_of whole.grips actor child) child_written;
-      exists = exists;
-      within = at.0;
-      leads = leads_to (pivot_at pivots pivot).child child at.1;
-    }
+use Rattle.spl_flush.proofs.Leads.{IsLed, IsReady}
+use Rattle.spl_flush.proofs.Nodes.{parent_stays, flushed_made}
 
 -- what the step promises of the state that it leaves
 pub record Leaves (old new : Whole) (actor parent pivot child : ℕ) : Type 0 where
@@ -75,8 +41,11 @@ stands_held : {B : Type 0} (held : Option (ℕ × B)) → IsSome (option_map (λ
 stands_held None some = some
 stands_held (Some h) some = refl
 
-pub mark_made : (nodes : List NodeData) → IsShaped nodes → (parent pivot : ℕ) → parent < length nodes → pivot < length (node_at nodes parent).pivots → (pivot_at (node_at nodes parent).pivots pivot).mark ≤ next_of (node_at nodes parent).lists
-mark_made nodes shaped parent pivot exists within = (mark_at (node_at nodes parent) (All-get_or IsNode nodes parent (fresh 0 bare) exists shaped.each) pivot within).1
+-- the mark of the pivot is at most the next number, also once the child has its bundle
+pub mark_made : (nodes : List NodeData) (shaped : IsShaped nodes) (parent pivot child : ℕ) (led : IsLed nodes parent pivot child) (middle : List NodeData) → middle ≡ set nodes child (received (node_at nodes child) (live_at (node_at nodes parent) pivot)) → (pivot_at (node_at middle parent).pivots pivot).mark ≤ next_of (node_at middle parent).lists
+mark_made nodes shaped parent pivot child led middle made =
+    let is = All-get_or IsNode nodes parent (fresh 0 bare) led.exists shaped.each in
+    subst (λ (node : NodeData). (pivot_at node.pivots pivot).mark ≤ next_of node.lists) (sym (parent_stays nodes shaped parent pivot child led middle made)) (mark_at (node_at nodes parent) is pivot led.within).1
 
 module _ {B : Type 0} (extents_of : B → List ℕ) (data_of : B → BranchData) (same : (branch : B) → (data_of branch).extents ≡ extents_of branch) (old : Whole) (sound : IsSound old) (actor parent pivot child : ℕ) (ready : IsReady old actor parent pivot child) (refs : Published B) (is_refs : old.refs ≡ all_seen data_of refs) where
   abbrev live : List ℕ
@@ -86,7 +55,7 @@ module _ {B : Type 0} (extents_of : B → List ℕ) (data_of : B → BranchData)
   dead = dead_names (node_at old.nodes parent) pivot
 
   abbrev rest : List ℕ
-  rest = left old sound actor parent pivot child ready.writes_parent ready.writes_child ready.exists ready.within ready.leads
+  rest = left old sound actor parent pivot child ready
 
   there : AreAccounted extents_of (mentioned old.nodes old.actors) refs old.owners
   there =
@@ -110,12 +79,14 @@ module _ {B : Type 0} (extents_of : B → List ℕ) (data_of : B → BranchData)
   few_there few n = subst (λ (count : ℕ). count < 2 ^ 62) (ap (λ (r : Published BranchData). count_at r n) is_refs ∙ count_seen data_of refs n) (few n)
 
   -- once what is live is counted once more
-  module _ (held : Published B) (more : (n : ℕ) → count_at held n ≡ count_at refs n + times n live) (branches : (n : ℕ) → branch_at held n ≡ branch_at refs n) where
-    pub dead_first : AreAccounted extents_of (dead ++ rest) held old.owners
+  module _ (held : Published B) (more : (n : ℕ) → count_at held n ≡ count_at refs n + times n live) (branches : (n : ℕ) → branch_at held n ≡ branch_at refs n) (middle : List NodeData) (made : middle ≡ set old.nodes child (received (node_at old.nodes child) live)) where
+    -- what the parent is to name no more is accounted for, and then the rest
+    pub dead_first : AreAccounted extents_of (dead_names (node_at middle parent) pivot ++ rest) held old.owners
     dead_first =
-        renamed extents_of data_of same (live ++ mentioned old.nodes old.actors) (dead ++ rest) held old.owners
-        (as_often old sound actor parent pivot child ready.writes_parent ready.writes_child ready.exists ready.within ready.leads)
-        (accounted_more extents_of (mentioned old.nodes old.actors) live refs held old.owners more branches live_mentioned there)
+        subst (λ (node : NodeData). AreAccounted extents_of (dead_names node pivot ++ rest) held old.owners) (sym (parent_stays old.nodes sound.shaped parent pivot child ready.led middle made))
+        (renamed extents_of data_of same (live ++ mentioned old.nodes old.actors) (dead ++ rest) held old.owners
+        (as_often old sound actor parent pivot child ready)
+        (accounted_more extents_of (mentioned old.nodes old.actors) live refs held old.owners more branches live_mentioned there))
 
     stays_seen : (new : Published B) → ((n : ℕ) → 0 < count_at new n → branch_at new n ≡ branch_at held n) → (n : ℕ) → 0 < count_at (all_seen data_of new) n → branch_at (all_seen data_of new) n ≡ branch_at old.refs n
     stays_seen new stays n some =
@@ -134,15 +105,16 @@ module _ {B : Type 0} (extents_of : B → List ℕ) (data_of : B → BranchData)
         omega arith
 
     pub leaves : (new : Published B) (owners : List Owner) (nodes : List NodeData) → AreAccounted extents_of rest new owners → ((n : ℕ) → 0 < count_at new n → branch_at new n ≡ branch_at held n) → ((n : ℕ) → count_at new n ≤ count_at held n) → ((other : ℕ) → granted_to owners other ≡ granted_to old.owners other)
-        → length live ≤ 32 → nodes ≡ flushed old.nodes parent pivot child → IsShaped nodes → AreBelow old.nodes old.tables old.counters
+        → length live ≤ 32 → nodes ≡ set middle parent (passed (node_at middle parent) pivot) → IsShaped nodes → AreBelow old.nodes old.tables old.counters
         → Leaves old (record old { nodes = nodes; refs = all_seen data_of new; owners = owners }) actor parent pivot child
-    leaves new owners nodes accounted stays fewer granted short is_nodes shaped fresh =
+    leaves new owners nodes accounted stays fewer granted short is shaped fresh =
+        let is_nodes = flushed_made old.nodes sound.shaped parent pivot child ready.led middle made nodes is in
         let accounts = accounts_seen extents_of data_of same rest new owners accounted in
         let still = stays_seen new stays in
         let shaped_now = subst (λ (ns : List NodeData). IsShaped ns) is_nodes shaped in
         subst (λ (ns : List NodeData). Leaves old (record old { nodes = ns; refs = all_seen data_of new; owners = owners }) actor parent pivot child) (sym is_nodes) (record {
-          sound = handed_sound old sound actor parent pivot child ready.writes_parent ready.writes_child ready.exists ready.within ready.leads (all_seen data_of new) owners accounts still granted fresh shaped_now;
-          done = is_flushed old sound actor parent pivot child ready.writes_parent ready.writes_child ready.exists ready.within ready.leads (all_seen data_of new) owners accounts still granted;
+          sound = handed_sound old sound actor parent pivot child ready (all_seen data_of new) owners accounts still granted fresh shaped_now;
+          done = is_flushed old sound actor parent pivot child ready (all_seen data_of new) owners accounts still granted;
           named = few_more new fewer short;
-          framed = handed_framed old sound actor parent pivot child ready.writes_parent ready.writes_child ready.exists ready.within ready.leads (all_seen data_of new) owners accounts still granted;
+          framed = handed_framed old sound actor parent pivot child ready (all_seen data_of new) owners accounts still granted;
         })

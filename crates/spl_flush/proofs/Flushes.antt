@@ -1,11 +1,10 @@
 -- A flush leaves the state sound, and what everybody else relies on.
-use Rattle.std.proofs.Common.{◌≡◌, ◌≢◌, ℕ, zero, suc, ◌+◌, ◌<◌, ◌≤◌, Bool, true, List, [], ◌∷◌, ◌++◌, Option, Some, None, map, flat_map, length, refl, sym, ap, subst, ◌∙◌, inl, inr, arith}
+use Rattle.std.proofs.Common.{◌≡◌, ◌≢◌, ℕ, zero, suc, ◌<◌, ◌≤◌, Bool, true, List, [], ◌∷◌, ◌++◌, Option, Some, None, map, flat_map, length, refl, sym, ap, subst, ◌∙◌, inl, inr, arith}
 use Rattle.std.specs.Prelude.{IsSome, ◌↔◌}
-use Rattle.std.proofs.lemmas.Bool.{cases_eq, cases_lt, false≢true}
+use Rattle.std.proofs.lemmas.Bool.{cases_eq, cases_lt}
 use Rattle.std.proofs.lemmas.List.{length-map}
 use Rattle.std.proofs.lemmas.List.Elements.{All-get_or}
 use Rattle.spl_base.specs.declared.TheConstants.{ACTORS}
-use Rattle.spl_message.specs.declared.span.Span.{Span}
 use Rattle.spl_message.specs.Cell.{Cell}
 use Rattle.spl_message.specs.Message.{act_all}
 use Rattle.spl_message.specs.Rule.{Rule}
@@ -25,7 +24,7 @@ use Rattle.spl_trunk.specs.Tree.{sub, times, named, IsShaped}
 use Rattle.spl_trunk.proofs.Counts.{times-append, times-joined, times_itself}
 use Rattle.spl_trunk.proofs.Means.{means_but_child}
 use Rattle.spl_trunk.proofs.Steps.{flush_kept}
-use Rattle.spl_tables.specs.Memtables.{FrozenData, tables_of}
+use Rattle.spl_tables.specs.Memtables.{tables_of}
 use Rattle.spl_state.specs.declared.actor.Actor.{Actor}
 use Rattle.spl_state.specs.declared.descent.Descent.{Descent}
 use Rattle.spl_state.specs.declared.job.Job.{Job}
@@ -40,6 +39,7 @@ use Rattle.spl_state.specs.Sound.{IsSound, AreDrafts, meaning}
 use Rattle.spl_state.specs.Whole.{BranchData, Whole, branches, table_in, table_or}
 use Rattle.spl_state.proofs.Named.{node_named, same_live, same_map, same_split, stands_in, sub_agrees}
 use Rattle.spl_flush.specs.Flushing.{dead_names, flushed, IsFlushed}
+use Rattle.spl_flush.proofs.Leads.{IsReady}
 use Rattle.spl_flush.proofs.Nodes.{long, there, parent_is, child_is, other_is, same_height, named_now, still_runs, still_ends, next_numbers, generations}
 
 -- an actor names what all actors name
@@ -79,7 +79,7 @@ free_no_write grip free write = cc
 abbrev pub handed : Whole → ℕ → ℕ → ℕ → Published BranchData → List Owner → Whole
 handed old parent pivot child refs owners = record old { nodes = flushed old.nodes parent pivot child; refs = refs; owners = owners }
 
-module _ (old : Whole) (sound : IsSound old) (actor parent pivot child : ℕ) (writes_parent : grip_of old.grips actor parent ≡ Write) (writes_child : grip_of old.grips actor child ≡ Write) (exists : parent < length old.nodes) (within : pivot < length (node_at old.nodes parent).pivots) (leads : (pivot_at (node_at old.nodes parent).pivots pivot).child ≡ Some child) where
+module _ (old : Whole) (sound : IsSound old) (actor parent pivot child : ℕ) (ready : IsReady old actor parent pivot child) where
   -- what is named once the flush is made
   abbrev pub left : List ℕ
   left = mentioned (flushed old.nodes parent pivot child) old.actors
@@ -93,7 +93,7 @@ module _ (old : Whole) (sound : IsSound old) (actor parent pivot child : ℕ) (w
   -- what was named and what the child names more is what is named and what the parent names no more
   pub as_often : (n : ℕ) → times n (live ++ mentioned old.nodes old.actors) ≡ times n (dead ++ left)
   as_often n =
-      let change = named_now old.nodes sound.shaped parent pivot child exists within leads n in
+      let change = named_now old.nodes sound.shaped parent pivot child ready.led n in
       let more = times-append n live (mentioned old.nodes old.actors) in
       let less = times-append n dead left in
       let before = times-append n (named old.nodes) (flat_map named_by old.actors) in
@@ -119,21 +119,21 @@ module _ (old : Whole) (sound : IsSound old) (actor parent pivot child : ℕ) (w
       free_no_write (grip_of old.grips other m) (alone_at other m apart below writes) (subst (λ (k : ℕ). grip_of old.grips other k ≡ Write) same theirs)
 
   child_there : child < length old.nodes
-  child_there = there old.nodes sound.shaped parent pivot child exists within leads
+  child_there = there old.nodes sound.shaped parent pivot child ready.led
 
   -- the other nodes stay
   others_stay : (n : ℕ) → n ≢ parent → n ≢ child → node_at (flushed old.nodes parent pivot child) n ≡ node_at old.nodes n
-  others_stay = other_is old.nodes sound.shaped parent pivot child exists within leads
+  others_stay = other_is old.nodes sound.shaped parent pivot child ready.led
 
   read_stays : (who n : ℕ) → grip_of old.grips who n ≡ Read → node_at (flushed old.nodes parent pivot child) n ≡ node_at old.nodes n
-  read_stays who n reads = others_stay n (not_read_at who n parent exists writes_parent reads) (not_read_at who n child child_there writes_child reads)
+  read_stays who n reads = others_stay n (not_read_at who n parent ready.led.exists ready.writes_parent reads) (not_read_at who n child child_there ready.writes_child reads)
 
   module _ (refs : Published BranchData) (owners : List Owner) (accounts : AccountsForExtents left (count_at refs) (branch_at refs) owners) (stays : (n : ℕ) → 0 < count_at refs n → branch_at refs n ≡ branches old n) (granted : (other : ℕ) → granted_to owners other ≡ granted_to old.owners other) where
     abbrev new : Whole
     new = handed old parent pivot child refs owners
 
     same_length : length new.nodes ≡ length old.nodes
-    same_length = long old.nodes sound.shaped parent pivot child exists within leads
+    same_length = long old.nodes sound.shaped parent pivot child ready.led
 
     -- a branch that is still named is the one that it was
     still_named : (n : ℕ) → 0 < times n left → branches new n ≡ branches old n
@@ -201,9 +201,9 @@ module _ (old : Whole) (sound : IsSound old) (actor parent pivot child : ℕ) (w
       places = sound.bounds.places;
       branches = sound.bounds.branches;
       memtables = sound.bounds.memtables;
-      lists = next_numbers old.nodes sound.shaped parent pivot child exists within leads old.counters.steps sound.bounds.lists fresh.lists;
-      generations = generations old.nodes sound.shaped parent pivot child exists within leads old.counters.steps sound.bounds.generations;
-      height = subst (λ (count : ℕ). (node_at new.nodes 0).height < count) (sym same_length) (subst (λ (height : ℕ). height < length old.nodes) (sym (same_height old.nodes sound.shaped parent pivot child exists within leads 0)) sound.bounds.height);
+      lists = next_numbers old.nodes sound.shaped parent pivot child ready.led old.counters.steps sound.bounds.lists fresh.lists;
+      generations = generations old.nodes sound.shaped parent pivot child ready.led old.counters.steps sound.bounds.generations;
+      height = subst (λ (count : ℕ). (node_at new.nodes 0).height < count) (sym same_length) (subst (λ (height : ℕ). height < length old.nodes) (sym (same_height old.nodes sound.shaped parent pivot child ready.led 0)) sound.bounds.height);
       numbers = λ n some. sound.bounds.numbers n (subst (λ (o : Option BranchData). IsSome o) (stays n ((accounts.stands n).0 some)) some);
     }
 
@@ -218,8 +218,8 @@ module _ (old : Whole) (sound : IsSound old) (actor parent pivot child : ℕ) (w
       actors = actors_stand;
       apart = sound.apart;
       picked = sound.picked;
-      runs = still_runs old.nodes sound.shaped parent pivot child exists within leads old.actors sound.runs;
-      ends = still_ends old.nodes sound.shaped parent pivot child exists within leads sound.ends;
+      runs = still_runs old.nodes sound.shaped parent pivot child ready.led old.actors sound.runs;
+      ends = still_ends old.nodes sound.shaped parent pivot child ready.led sound.ends;
       bounds = bounded fresh;
     }
 
@@ -241,9 +241,9 @@ module _ (old : Whole) (sound : IsSound old) (actor parent pivot child : ℕ) (w
     -- every node but the child means what it meant
     kept : (rule : Rule) (height n : ℕ) (key : List ℕ) → n < length old.nodes → n ≢ child → (node_at old.nodes n).height ≡ height → InSpan (node_at old.nodes n).range key → sub rule (table_in (branches old)) (node_at new.nodes) height n key ≡ sub rule (table_in (branches old)) (node_at old.nodes) height n key
     kept rule =
-        flush_kept old.nodes sound.shaped rule (table_in (branches old)) (node_at new.nodes) parent pivot child exists within leads (λ n below away off. others_stay n away off)
-        (parent_is old.nodes sound.shaped parent pivot child exists within leads)
-        (child_is old.nodes sound.shaped parent pivot child exists within leads)
+        flush_kept old.nodes sound.shaped rule (table_in (branches old)) (node_at new.nodes) parent pivot child ready.led.exists ready.led.within ready.led.leads (λ n below away off. others_stay n away off)
+        (parent_is old.nodes sound.shaped parent pivot child ready.led)
+        (child_is old.nodes sound.shaped parent pivot child ready.led)
 
     now_as_before : (rule : Rule) (height n : ℕ) (key : List ℕ) → sub rule (table_in (branches new)) (node_at new.nodes) height n key ≡ sub rule (table_in (branches old)) (node_at new.nodes) height n key
     now_as_before rule = sub_agrees rule new.nodes (table_in (branches old)) (table_in (branches new)) trunk_tables
@@ -251,8 +251,8 @@ module _ (old : Whole) (sound : IsSound old) (actor parent pivot child : ℕ) (w
     same_meaning : (rule : Rule) (key : List ℕ) → meaning rule new key ≡ meaning rule old key
     same_meaning rule key =
         ap (λ (cell : Cell). act_all rule key cell (chain (tables_of old.tables) key)) (now_as_before rule (node_at new.nodes 0).height 0 key)
-        ∙ means_but_child old.nodes sound.shaped rule (table_in (branches old)) (node_at new.nodes) parent pivot child exists within leads (λ n below away off. others_stay n away off)
-        (same_height old.nodes sound.shaped parent pivot child exists within leads parent) (kept rule) (tables_of old.tables) key
+        ∙ means_but_child old.nodes sound.shaped rule (table_in (branches old)) (node_at new.nodes) parent pivot child ready.led.exists ready.led.within ready.led.leads (λ n below away off. others_stay n away off)
+        (same_height old.nodes sound.shaped parent pivot child ready.led parent) (kept rule) (tables_of old.tables) key
 
     sees : (rule : Rule) (tells : Bool) (other : ℕ) (d : Descent) → IsOnWay old.nodes old.grips old.counters.places other (actor_in old.actors other) (Some d) → SeesNode rule tells old new d
     sees rule tells other d way =
@@ -268,7 +268,7 @@ module _ (old : Whole) (sound : IsSound old) (actor parent pivot child : ℕ) (w
           rest = λ told key inside.
               now_as_before rule (node_at new.nodes d.node).height d.node key
               ∙ ap (λ (height : ℕ). sub rule (table_in (branches old)) (node_at new.nodes) height d.node key) (ap (λ (n : NodeData). n.height) same)
-              ∙ kept rule node.height d.node key way.exists (not_read_at other d.node child child_there writes_child way.reads) refl (way.lies.within key inside);
+              ∙ kept rule node.height d.node key way.exists (not_read_at other d.node child child_there ready.writes_child way.reads) refl (way.lies.within key inside);
         }
 
     source_kept : (other : ℕ) (job : Job) → (actor_in old.actors other).job ≡ Some job → SeesSource old new job
@@ -278,7 +278,7 @@ module _ (old : Whole) (sound : IsSound old) (actor parent pivot child : ℕ) (w
 
     keeps : (other n : ℕ) → other ≢ actor → grip_of old.grips other n ≡ Write → KeepsNode old new n
     keeps other n apart theirs =
-        let same = others_stay n (not_written_at other n parent apart exists writes_parent theirs) (not_written_at other n child apart child_there writes_child theirs) in
+        let same = others_stay n (not_written_at other n parent apart ready.led.exists ready.writes_parent theirs) (not_written_at other n child apart child_there ready.writes_child theirs) in
         record {
           pivots = ap (λ (node : NodeData). length node.pivots) same;
           bundles = ap (λ (node : NodeData). length node.lists.bundles) same;

@@ -1,8 +1,8 @@
 -- Branches that are counted once more, and lists of names that end.
-use Rattle.std.proofs.Common.{◌≡◌, ◌≢◌, ℕ, nat_eq, zero, suc, ◌+◌, ◌<◌, ◌≤◌, ◌^◌, Bool, List, [], ◌∷◌, ◌++◌, Option, Some, None, length, get_or, take, refl, sym, ap, subst, ◌∙◌, inl, inr, arith, append_assoc, length-take-le}
+use Rattle.std.proofs.Common.{◌≡◌, ℕ, nat_eq, ◌+◌, ◌<◌, ◌≤◌, ◌^◌, List, [], ◌∷◌, ◌++◌, Option, Some, None, length, get_or, take, refl, sym, ap, subst, ◌∙◌, inl, inr, arith, append_assoc, length-take-le}
 use Rattle.std.specs.Prelude.{IsSome, ◌↔◌}
 use Rattle.std.specs.Option.{option_map}
-use Rattle.std.proofs.lemmas.Bool.{cases_eq, cases_lt, false≢true}
+use Rattle.std.proofs.lemmas.Bool.{cases_eq, cases_lt}
 use Rattle.std.proofs.lemmas.List.{take_more, take_all, get_or_default}
 use Rattle.std.proofs.lemmas.List.Sums.{count_by-le-length}
 use Rattle.spl_extent.specs.declared.owner.Owner.{Owner}
@@ -11,7 +11,7 @@ use Rattle.spl_refs.specs.Refs.{Published, held_at, branch_at, count_at, CountsA
 use Rattle.spl_trunk.specs.Tree.{times}
 use Rattle.spl_trunk.proofs.Counts.{times-append, times_itself}
 use Rattle.spl_state.specs.Names.{AreAccounted}
-use Rattle.spl_state.proofs.LettingGo.{LettingGo, times_this, times_other}
+use Rattle.spl_state.proofs.LettingGo.{LettingGo, times_other}
 use Rattle.spl_state.proofs.Named.{stands_in}
 
 pub times_few : (n : ℕ) (numbers : List ℕ) → times n numbers ≤ length numbers

@@ -1,16 +1,16 @@
 -- The nodes after a flush: what holds of the parent, of the child, and of all of them.
-use Rattle.std.proofs.Common.{◌≡◌, ◌≢◌, ℕ, zero, suc, ◌+◌, ◌-◌, ◌<◌, ◌≤◌, max, Bool, List, [], ◌∷◌, ◌++◌, Option, Some, None, length, take, drop, set, refl, sym, ap, subst, ◌∙◌, inl, inr, arith, length-append, length-drop, length-set, get_or-set_same, get_or-set_other}
+use Rattle.std.proofs.Common.{◌≡◌, ◌≢◌, ℕ, ◌+◌, ◌-◌, ◌<◌, ◌≤◌, max, List, [], ◌∷◌, ◌++◌, Option, Some, None, length, take, drop, set, refl, sym, ap, subst, ◌∙◌, inl, inr, arith, length-append, length-drop, length-set, get_or-set_same, get_or-set_other}
 use Rattle.std.specs.Prelude.{All, ◌⊎◌}
 use Rattle.std.proofs.lemmas.Bool.{cases_eq, cases_lt}
 use Rattle.std.proofs.lemmas.List.{get_or_append_left, get_or_push, drop-append-le, take-append-le}
 use Rattle.std.proofs.lemmas.List.Elements.{All-set, All-get_or, All-drop}
 use Rattle.spl_base.specs.declared.TheConstants.{ACTORS}
-use Rattle.spl_bundle.specs.Numbered.{Numbered, Bundle, unmarked, bundle_at, next_of, joined, names, pushed, dropped_below}
+use Rattle.spl_bundle.specs.Numbered.{Numbered, Bundle, unmarked, bundle_at, next_of, joined, names, pushed}
 use Rattle.spl_bundle.proofs.Changes.{names-pushed, names-dropped}
 use Rattle.spl_node.specs.declared.pivot.Pivot.{Pivot}
 use Rattle.spl_node.specs.Node.{NodeData, bare, pivot_at, live_at}
-use Rattle.spl_node.specs.Parts.{branches_from, IsUncut}
-use Rattle.spl_node.specs.Steps.{fresh, with_lists, with_mark, at_mark, kept_from, trimmed}
+use Rattle.spl_node.specs.Parts.{branches_from}
+use Rattle.spl_node.specs.Steps.{fresh, with_lists, with_mark, at_mark, kept_from}
 use Rattle.spl_node.proofs.Lives.{kept_from-ge}
 use Rattle.spl_trunk.specs.Moves.{passed, received}
 use Rattle.spl_trunk.specs.Trunk.{node_at}
@@ -25,6 +25,7 @@ use Rattle.spl_state.specs.Actor.{actor_in}
 use Rattle.spl_state.specs.Bounds.{StartsFull, HasEnds, HasAllEnds}
 use Rattle.spl_state.specs.Runs.{Stands, HoldsRun, IsInRun, AreInRuns}
 use Rattle.spl_flush.specs.Flushing.{dead_names, flushed}
+use Rattle.spl_flush.proofs.Leads.{IsLed}
 use Rattle.spl_flush.proofs.Trims.{next_trimmed, bundle_trimmed, starts_full, held_trimmed}
 
 no_owner : (who : ℕ) → None ≡ Some who → ⊥
@@ -135,7 +136,7 @@ names_passed n node pivot =
     let marked = with_mark node pivot (next_of node.lists) in
     sym (times-append n (dead_names node pivot) (names (passed node pivot).lists)) ∙ ap (times n) (names-dropped node.lists (kept_from marked))
 
-module _ (nodes : List NodeData) (shaped : IsShaped nodes) (parent pivot child : ℕ) (exists : parent < length nodes) (within : pivot < length (node_at nodes parent).pivots) (leads : (pivot_at (node_at nodes parent).pivots pivot).child ≡ Some child) where
+module _ (nodes : List NodeData) (shaped : IsShaped nodes) (parent pivot child : ℕ) (led : IsLed nodes parent pivot child) where
   abbrev pub from : NodeData
   from = node_at nodes parent
 
@@ -149,19 +150,19 @@ module _ (nodes : List NodeData) (shaped : IsShaped nodes) (parent pivot child :
   after = flushed nodes parent pivot child
 
   pub there : child < length nodes
-  there = (shaped.children parent pivot child exists within leads).exists
+  there = (shaped.children parent pivot child led.exists led.within led.leads).exists
 
   high : 0 < from.height
-  high = let linked = (shaped.children parent pivot child exists within leads).height in omega arith
+  high = let linked = (shaped.children parent pivot child led.exists led.within led.leads).height in omega arith
 
   pub apart : parent ≢ child
   apart same =
-      let linked = (shaped.children parent pivot child exists within leads).height in
+      let linked = (shaped.children parent pivot child led.exists led.within led.leads).height in
       let level = ap (λ (n : ℕ). (node_at nodes n).height) same in
       omega arith
 
   no_root : child ≢ 0
-  no_root = not_root nodes shaped parent pivot child exists within leads
+  no_root = not_root nodes shaped parent pivot child led.exists led.within led.leads
 
   abbrev between : List NodeData
   between = set nodes child (received to live)
@@ -173,7 +174,7 @@ module _ (nodes : List NodeData) (shaped : IsShaped nodes) (parent pivot child :
   long = length-set between parent (passed from pivot) ∙ long_between
 
   pub parent_is : node_at after parent ≡ passed from pivot
-  parent_is = get_or-set_same between parent (passed from pivot) (fresh 0 bare) (omega (arith, exists, long_between))
+  parent_is = get_or-set_same between parent (passed from pivot) (fresh 0 bare) (omega (arith, led.exists, long_between))
 
   pub child_is : node_at after child ≡ received to live
   child_is =
@@ -209,7 +210,7 @@ module _ (nodes : List NodeData) (shaped : IsShaped nodes) (parent pivot child :
   pub named_now : (n : ℕ) → times n (named after) + times n (dead_names from pivot) ≡ times n (named nodes) + times n live
   named_now n =
       let first = times-replaced (λ (node : NodeData). names node.lists) n nodes child (received to live) (fresh 0 bare) there in
-      let second = times-replaced (λ (node : NodeData). names node.lists) n between parent (passed from pivot) (fresh 0 bare) (omega (arith, exists, long_between)) in
+      let second = times-replaced (λ (node : NodeData). names node.lists) n between parent (passed from pivot) (fresh 0 bare) (omega (arith, led.exists, long_between)) in
       let more = names_received n to live in
       let less = names_passed n from pivot in
       let same = ap (λ (node : NodeData). times n (names node.lists)) from_between in
@@ -218,7 +219,7 @@ module _ (nodes : List NodeData) (shaped : IsShaped nodes) (parent pivot child :
   pub still_runs : (actors : List Actor) → AreInRuns nodes actors → AreInRuns after actors
   still_runs actors runs n bundle who below =
       each_node (λ (m : ℕ) (node : NodeData). m < length nodes → Stands node.lists bundle → (bundle_at node.lists bundle).owner ≡ Some who → (who < ACTORS) × IsInRun node bundle who (actor_in actors who).job)
-      (λ within. here_passed actors from pivot (λ b w. runs parent b w exists) bundle who)
+      (λ within. here_passed actors from pivot (λ b w. runs parent b w led.exists) bundle who)
       (λ within. here_received actors to live (λ b w. runs child b w there) bundle who)
       (λ m away off within. runs m bundle who within)
       n (subst (λ (count : ℕ). n < count) long below)
@@ -242,7 +243,7 @@ module _ (nodes : List NodeData) (shaped : IsShaped nodes) (parent pivot child :
   pub next_numbers : (steps : ℕ) → All (λ (node : NodeData). next_of node.lists ≤ steps) nodes → All (λ (node : NodeData). next_of node.lists < steps) nodes → All (λ (node : NodeData). next_of node.lists ≤ steps) after
   next_numbers steps all room =
       let below = All-get_or (λ (node : NodeData). next_of node.lists < steps) nodes child (fresh 0 bare) there room in
-      let upto = All-get_or (λ (node : NodeData). next_of node.lists ≤ steps) nodes parent (fresh 0 bare) exists all in
+      let upto = All-get_or (λ (node : NodeData). next_of node.lists ≤ steps) nodes parent (fresh 0 bare) led.exists all in
       let same = next_trimmed (with_mark from pivot (next_of from.lists)) in
       let more = next_received to live in
       all_nodes (λ (node : NodeData). next_of node.lists ≤ steps) (omega arith) (omega arith) all
@@ -250,7 +251,7 @@ module _ (nodes : List NodeData) (shaped : IsShaped nodes) (parent pivot child :
   pub generations : (steps : ℕ) → All (λ (node : NodeData). node.generation ≤ steps) nodes → All (λ (node : NodeData). node.generation ≤ steps) after
   generations steps all =
       let of : (n : ℕ) → n < length nodes → (node_at nodes n).generation ≤ steps = λ n below. All-get_or (λ (node : NodeData). node.generation ≤ steps) nodes n (fresh 0 bare) below all in
-      all_nodes (λ (node : NodeData). node.generation ≤ steps) (of parent exists)
+      all_nodes (λ (node : NodeData). node.generation ≤ steps) (of parent led.exists)
       (subst (λ (generation : ℕ). generation ≤ steps) (sym (received_parts (λ (node : NodeData). node.generation) to live refl)) (of child there))
       all
 

@@ -1,11 +1,11 @@
 -- What a trim leaves of a node's bundles, and of a run that stands in it.
-use Rattle.std.proofs.Common.{◌≡◌, ℕ, zero, suc, ◌+◌, ◌-◌, ◌<◌, ◌≤◌, max, min, Bool, true, false, ◌||◌, nat_lt, List, [], ◌∷◌, ◌++◌, ◌⊎◌, length, map, fold, get_or, take, drop, refl, sym, ap, subst, ◌∙◌, inl, inr, arith, length-drop}
+use Rattle.std.proofs.Common.{◌≡◌, ℕ, zero, suc, ◌+◌, ◌-◌, ◌<◌, ◌≤◌, max, min, Bool, true, false, ◌||◌, nat_lt, List, [], ◌∷◌, ◌++◌, ◌⊎◌, length, fold, get_or, take, drop, refl, sym, ap, subst, ◌∙◌, inl, inr, arith, length-drop}
 use Rattle.std.specs.Prelude.{All}
 use Rattle.std.proofs.lemmas.Bool.{cases_lt, ltb-true, false≢true}
 use Rattle.std.proofs.lemmas.Bool.Decides.{nat_tests}
 use Rattle.std.proofs.lemmas.List.{drop_all, drop_more, drop-drop, get_or-drop, nil_from_length}
 use Rattle.std.proofs.lemmas.List.Elements.{All-map}
-use Rattle.spl_bundle.specs.Numbered.{Numbered, Bundle, unmarked, bundle_at, next_of, joined, dropped_below}
+use Rattle.spl_bundle.specs.Numbered.{Bundle, unmarked, bundle_at, next_of, joined}
 use Rattle.spl_node.specs.declared.pivot.Pivot.{Pivot}
 use Rattle.spl_node.specs.Node.{NodeData}
 use Rattle.spl_node.specs.Parts.{branches_from, IsUncut}

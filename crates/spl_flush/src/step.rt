@@ -30,7 +30,10 @@ use spl_refs::Refs;
 use spl_state::{Parts, Reply};
 use spl_trunk::Trunk;
 
-/// Hands what is live in the parent for the child down to the child, as the child's newest bundle.
+/// Makes what is live in the parent for the child the child's newest bundle, unless it is nothing, and drops the
+/// parent's bundles that are live for no child any more. Branches that nothing names any more give their extents back.
+///
+/// Nobody writes a node that is not there, so an actor that names one is unfit.
 pub fn flush<B: Content>(parts: &mut Parts<B>, actor: u32, parent: u32, child: u32) -> Reply<B>
     requires known { actor < ACTORS }
     requires fresh { AreBelow parts.old.nodes parts.old.tables parts.old.counters }
@@ -52,10 +55,10 @@ pub fn flush<B: Content>(parts: &mut Parts<B>, actor: u32, parent: u32, child: u
     let Some(pivot) = pivot_to(from, child) else {
         return Reply::Moved { child };
     };
-    let branches = live_len(from, pivot);
     if parts.trunk.node(child).unwrap().lists().is_full() {
         return Reply::NeedsRoom;
     }
+    let branches = live_len(from, pivot);
     if branches as usize > MAX_BRANCHES {
         return Reply::NeedsCompact { branches };
     }

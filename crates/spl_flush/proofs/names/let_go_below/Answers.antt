@@ -1,5 +1,4 @@
-use Rattle.std.proofs.Common.{rules, arith, ◌≡◌, ◌+◌, ◌++◌, ◌<◌, List, ℕ, sym, ap, subst, ◌∙◌, append_assoc}
-use Rattle.spl_bundle.specs.Numbered.{bundle_at}
+use Rattle.std.proofs.Common.{arith, ◌+◌, ◌++◌, List, ℕ, sym, ap, subst, ◌∙◌, append_assoc}
 use Rattle.spl_bundle.proofs.Live.{live_below}
 use Rattle.spl_state.specs.Names.{AreAccounted}
 use Rattle.spl_state.proofs.LettingGo.{LettingGo}

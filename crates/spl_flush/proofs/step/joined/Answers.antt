@@ -1,6 +1,6 @@
-use Rattle.std.proofs.Common.{◌+◌, ◌++◌, ap, ap₂, sym, refl, ◌∙◌, length, length-append, arith}
+use Rattle.std.proofs.Common.{◌+◌, ◌++◌, ap, ap₂, sym, ◌∙◌, length, length-append, arith}
 use Rattle.spl_bundle.specs.Numbered.{bundle_at}
-use Rattle.spl_bundle.proofs.Live.{live_below, live_more, live_none, live_all, length-live_below}
+use Rattle.spl_bundle.proofs.Live.{live_below, live_more, length-live_below}
 use Rattle.spl_flush.proofs.step.joined.Goals as goal
 
 -- the next list fits

@@ -1,4 +1,4 @@
-use Rattle.std.proofs.Common.{arith, ap, ◌∙◌, slice_index_or}
+use Rattle.std.proofs.Common.{arith, slice_index_or}
 use Rattle.spl_flush.proofs.Queues.{live_few}
 use Rattle.spl_flush.proofs.step.live_len.Goals as goal
 

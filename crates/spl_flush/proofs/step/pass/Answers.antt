@@ -1,9 +1,9 @@
-use Rattle.std.proofs.Common.{rules, ◌≡◌, ℕ, List, sym, ap, ◌∙◌, set, get_or-set_same}
+use Rattle.std.proofs.Common.{rules, ◌≡◌, ℕ, List, ap, ◌∙◌, set, get_or-set_same}
 use Rattle.std.proofs.lemmas.List.{set-set}
 use Rattle.spl_bundle.specs.Numbered.{next_of}
 use Rattle.spl_node.specs.Node.{NodeData, bare}
 use Rattle.spl_node.specs.Steps.{fresh, with_mark, trimmed}
-use Rattle.spl_trunk.specs.Trunk.{node_at, with_node}
+use Rattle.spl_trunk.specs.Trunk.{node_at}
 use Rattle.spl_flush.proofs.step.pass.Goals as goal
 
 pub returns-clause-nodes : goal.returns-clause-nodes
