@@ -35,19 +35,27 @@ pub record Leaves (old new : Whole) (actor parent pivot child : ℕ) : Type 0 wh
   pub sound : IsSound new
   pub done : IsFlushed old new parent pivot child
   pub named : (number : ℕ) → counts new number ≤ counts old number + 32
-  pub framed : (rule : Rule) (tells : Bool) → (tells ≡ true → AreDrafts rule old) → IsFramed rule tells old new actor
+  pub framed : (rule : Rule) (tells : Bool) → (tells ≡ true → AreDrafts rule old)
+      → IsFramed rule tells old new actor
 
-stands_held : {B : Type 0} (held : Option (ℕ × B)) → IsSome (option_map (λ (h : ℕ × B). h.1) held) → IsSome held
+stands_held : {B : Type 0} (held : Option (ℕ × B)) → IsSome (option_map (λ (h : ℕ × B). h.1) held)
+    → IsSome held
 stands_held None some = some
 stands_held (Some h) some = refl
 
 -- the mark of the pivot is at most the next number, also once the child has its bundle
-pub mark_made : (nodes : List NodeData) (shaped : IsShaped nodes) (parent pivot child : ℕ) (led : IsLed nodes parent pivot child) (middle : List NodeData) → middle ≡ set nodes child (received (node_at nodes child) (live_at (node_at nodes parent) pivot)) → (pivot_at (node_at middle parent).pivots pivot).mark ≤ next_of (node_at middle parent).lists
+pub mark_made : (nodes : List NodeData) (shaped : IsShaped nodes) (parent pivot child : ℕ)
+    (led : IsLed nodes parent pivot child) (middle : List NodeData)
+    → middle ≡ set nodes child (received (node_at nodes child) (live_at (node_at nodes parent) pivot))
+    → (pivot_at (node_at middle parent).pivots pivot).mark ≤ next_of (node_at middle parent).lists
 mark_made nodes shaped parent pivot child led middle made =
     let is = All-get_or IsNode nodes parent (fresh 0 bare) led.exists shaped.each in
     subst (λ (node : NodeData). (pivot_at node.pivots pivot).mark ≤ next_of node.lists) (sym (parent_stays nodes shaped parent pivot child led middle made)) (mark_at (node_at nodes parent) is pivot led.within).1
 
-module _ {B : Type 0} (extents_of : B → List ℕ) (data_of : B → BranchData) (same : (branch : B) → (data_of branch).extents ≡ extents_of branch) (old : Whole) (sound : IsSound old) (actor parent pivot child : ℕ) (ready : IsReady old actor parent pivot child) (refs : Published B) (is_refs : old.refs ≡ all_seen data_of refs) where
+module _ {B : Type 0} (extents_of : B → List ℕ) (data_of : B → BranchData)
+    (same : (branch : B) → (data_of branch).extents ≡ extents_of branch) (old : Whole) (sound : IsSound old)
+    (actor parent pivot child : ℕ) (ready : IsReady old actor parent pivot child) (refs : Published B)
+    (is_refs : old.refs ≡ all_seen data_of refs) where
   abbrev live : List ℕ
   live = live_at (node_at old.nodes parent) pivot
 
@@ -79,23 +87,29 @@ module _ {B : Type 0} (extents_of : B → List ℕ) (data_of : B → BranchData)
   few_there few n = subst (λ (count : ℕ). count < 2 ^ 62) (ap (λ (r : Published BranchData). count_at r n) is_refs ∙ count_seen data_of refs n) (few n)
 
   -- once what is live is counted once more
-  module _ (held : Published B) (more : (n : ℕ) → count_at held n ≡ count_at refs n + times n live) (branches : (n : ℕ) → branch_at held n ≡ branch_at refs n) (middle : List NodeData) (made : middle ≡ set old.nodes child (received (node_at old.nodes child) live)) where
+  module _ (held : Published B) (more : (n : ℕ) → count_at held n ≡ count_at refs n + times n live)
+      (branches : (n : ℕ) → branch_at held n ≡ branch_at refs n) (middle : List NodeData)
+      (made : middle ≡ set old.nodes child (received (node_at old.nodes child) live)) where
     -- what the parent is to name no more is accounted for, and then the rest
-    pub dead_first : AreAccounted extents_of (dead_names (node_at middle parent) pivot ++ rest) held old.owners
+    pub dead_first : AreAccounted extents_of
+        (dead_names (node_at middle parent) pivot ++ rest) held old.owners
     dead_first =
         subst (λ (node : NodeData). AreAccounted extents_of (dead_names node pivot ++ rest) held old.owners) (sym (parent_stays old.nodes sound.shaped parent pivot child ready.led middle made))
         (renamed extents_of data_of same (live ++ mentioned old.nodes old.actors) (dead ++ rest) held old.owners
         (as_often old sound actor parent pivot child ready)
         (accounted_more extents_of (mentioned old.nodes old.actors) live refs held old.owners more branches live_mentioned there))
 
-    stays_seen : (new : Published B) → ((n : ℕ) → 0 < count_at new n → branch_at new n ≡ branch_at held n) → (n : ℕ) → 0 < count_at (all_seen data_of new) n → branch_at (all_seen data_of new) n ≡ branch_at old.refs n
+    stays_seen : (new : Published B) → ((n : ℕ) → 0 < count_at new n → branch_at new n ≡ branch_at held n)
+        → (n : ℕ) → 0 < count_at (all_seen data_of new) n
+        → branch_at (all_seen data_of new) n ≡ branch_at old.refs n
     stays_seen new stays n some =
         branch_seen data_of new n
         ∙ ap (λ (o : Option B). option_map data_of o) (stays n (subst (λ (count : ℕ). 0 < count) (count_seen data_of new n) some) ∙ branches n)
         ∙ sym (branch_seen data_of refs n)
         ∙ sym (ap (λ (r : Published BranchData). branch_at r n) is_refs)
 
-    few_more : (new : Published B) → ((n : ℕ) → count_at new n ≤ count_at held n) → length live ≤ 32 → (n : ℕ) → count_at (all_seen data_of new) n ≤ count_at old.refs n + 32
+    few_more : (new : Published B) → ((n : ℕ) → count_at new n ≤ count_at held n) → length live ≤ 32 → (n : ℕ)
+        → count_at (all_seen data_of new) n ≤ count_at old.refs n + 32
     few_more new fewer short n =
         let seen = count_seen data_of new n in
         let before = ap (λ (r : Published BranchData). count_at r n) is_refs ∙ count_seen data_of refs n in
@@ -104,7 +118,11 @@ module _ {B : Type 0} (extents_of : B → List ℕ) (data_of : B → BranchData)
         let most = times_few n live in
         omega arith
 
-    pub leaves : (new : Published B) (owners : List Owner) (nodes : List NodeData) → AreAccounted extents_of rest new owners → ((n : ℕ) → 0 < count_at new n → branch_at new n ≡ branch_at held n) → ((n : ℕ) → count_at new n ≤ count_at held n) → ((other : ℕ) → granted_to owners other ≡ granted_to old.owners other)
+    pub leaves : (new : Published B) (owners : List Owner) (nodes : List NodeData)
+        → AreAccounted extents_of rest new owners
+        → ((n : ℕ) → 0 < count_at new n → branch_at new n ≡ branch_at held n)
+        → ((n : ℕ) → count_at new n ≤ count_at held n)
+        → ((other : ℕ) → granted_to owners other ≡ granted_to old.owners other)
         → length live ≤ 32 → nodes ≡ set middle parent (passed (node_at middle parent) pivot) → IsShaped nodes → AreBelow old.nodes old.tables old.counters
         → Leaves old (record old { nodes = nodes; refs = all_seen data_of new; owners = owners }) actor parent pivot child
     leaves new owners nodes accounted stays fewer granted short is shaped fresh =

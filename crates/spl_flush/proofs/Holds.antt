@@ -17,14 +17,18 @@ use Rattle.spl_state.proofs.Named.{stands_in}
 pub times_few : (n : ℕ) (numbers : List ℕ) → times n numbers ≤ length numbers
 times_few n numbers = count_by-le-length (λ (other : ℕ). nat_eq other n) numbers
 
-stands_alike : {B : Type 0} (held other : Option (ℕ × B)) → option_map (λ (h : ℕ × B). h.1) held ≡ option_map (λ (h : ℕ × B). h.1) other → IsSome other → IsSome held
+stands_alike : {B : Type 0} (held other : Option (ℕ × B))
+    → option_map (λ (h : ℕ × B). h.1) held ≡ option_map (λ (h : ℕ × B). h.1) other → IsSome other
+    → IsSome held
 stands_alike None None same some = some
 stands_alike (Some h) None same some = refl
 stands_alike None (Some k) same some = cc
 stands_alike (Some h) (Some k) same some = refl
 
 -- The branches before one in a list are counted once more, and then this one is.
-module _ {B : Type 0} (old now : Published B) (numbers : List ℕ) (i : ℕ) (within : i < length numbers) (counts : (n : ℕ) → count_at now n ≡ count_at old n + times n (take i numbers)) (branches : (n : ℕ) → branch_at now n ≡ branch_at old n) where
+module _ {B : Type 0} (old now : Published B) (numbers : List ℕ) (i : ℕ) (within : i < length numbers)
+    (counts : (n : ℕ) → count_at now n ≡ count_at old n + times n (take i numbers))
+    (branches : (n : ℕ) → branch_at now n ≡ branch_at old n) where
   abbrev this : ℕ
   this = get_or numbers i 0
 
@@ -39,7 +43,8 @@ module _ {B : Type 0} (old now : Published B) (numbers : List ℕ) (i : ℕ) (wi
       let long = length-take-le i numbers (omega arith) in
       omega arith
 
-  pub next_counts : (new : Published B) → CountsAt now new this (count_at now this + 1) → (n : ℕ) → count_at new n ≡ count_at old n + times n (take (i + 1) numbers)
+  pub next_counts : (new : Published B) → CountsAt now new this (count_at now this + 1) → (n : ℕ)
+      → count_at new n ≡ count_at old n + times n (take (i + 1) numbers)
   next_counts new more n =
       let longer = ap (times n) (take_more numbers i 0 within) ∙ times-append n (take i numbers) (this ∷ []) in
       elim (cases_eq n this) [
@@ -55,11 +60,20 @@ module _ {B : Type 0} (old now : Published B) (numbers : List ℕ) (i : ℕ) (wi
             omega arith
       ]
 
-pub all_counts : {B : Type 0} (old now : Published B) (numbers : List ℕ) (i : ℕ) → length numbers ≤ i → ((n : ℕ) → count_at now n ≡ count_at old n + times n (take i numbers)) → (n : ℕ) → count_at now n ≡ count_at old n + times n numbers
+pub all_counts : {B : Type 0} (old now : Published B) (numbers : List ℕ) (i : ℕ) → length numbers ≤ i
+    → ((n : ℕ) → count_at now n ≡ count_at old n + times n (take i numbers)) → (n : ℕ)
+    → count_at now n ≡ count_at old n + times n numbers
 all_counts old now numbers i past counts n = counts n ∙ ap (λ (list : List ℕ). count_at old n + times n list) (take_all i numbers past)
 
 -- a list of names ends that stands before others
-pub lets_list_go : {B : Type 0} (extents_of : B → List ℕ) (all : List ℕ) (old now new : Published B) (owners after last : List Owner) (list numbers : List ℕ) → LettingGo extents_of all old now owners after (list ++ numbers) → ((rest : List ℕ) → AreAccounted extents_of (list ++ rest) now after → AreAccounted extents_of rest new last) → ((actor : ℕ) → granted_to last actor ≡ granted_to after actor) → ((other : ℕ) → 0 < count_at new other → branch_at new other ≡ branch_at now other) → ((other : ℕ) → count_at new other ≤ count_at now other) → LettingGo extents_of all old new owners last numbers
+pub lets_list_go : {B : Type 0} (extents_of : B → List ℕ) (all : List ℕ) (old now new : Published B)
+    (owners after last : List Owner) (list numbers : List ℕ)
+    → LettingGo extents_of all old now owners after (list ++ numbers)
+    → ((rest : List ℕ) → AreAccounted extents_of
+    (list ++ rest) now after → AreAccounted extents_of rest new last) → ((actor : ℕ)
+    → granted_to last actor ≡ granted_to after actor) → ((other : ℕ) → 0 < count_at new other
+    → branch_at new other ≡ branch_at now other) → ((other : ℕ) → count_at new other ≤ count_at now other)
+    → LettingGo extents_of all old new owners last numbers
 lets_list_go extents_of all old now new owners after last list numbers so_far accounted granted branches fewer = record {
   accounted = λ rest all_accounted. accounted (numbers ++ rest) (subst (λ (m : List ℕ). AreAccounted extents_of m now after) (append_assoc list numbers rest) (so_far.accounted rest all_accounted));
   granted = λ actor. granted actor ∙ so_far.granted actor;
@@ -68,8 +82,12 @@ lets_list_go extents_of all old now new owners after last list numbers so_far ac
 }
 
 -- What is counted once more is accounted for with these names in front.
-module _ {B : Type 0} (extents_of : B → List ℕ) (mentions list : List ℕ) (old now : Published B) (owners : List Owner) (counts : (n : ℕ) → count_at now n ≡ count_at old n + times n list) (branches : (n : ℕ) → branch_at now n ≡ branch_at old n) (there : (n : ℕ) → 0 < times n list → 0 < times n mentions) where
-  pub accounted_more : AreAccounted extents_of mentions old owners → AreAccounted extents_of (list ++ mentions) now owners
+module _ {B : Type 0} (extents_of : B → List ℕ) (mentions list : List ℕ) (old now : Published B)
+    (owners : List Owner) (counts : (n : ℕ) → count_at now n ≡ count_at old n + times n list)
+    (branches : (n : ℕ) → branch_at now n ≡ branch_at old n)
+    (there : (n : ℕ) → 0 < times n list → 0 < times n mentions) where
+  pub accounted_more : AreAccounted extents_of mentions old owners
+      → AreAccounted extents_of (list ++ mentions) now owners
   accounted_more was = record {
     counts = λ n.
         let parts = times-append n list mentions in

@@ -34,7 +34,9 @@ leads_to : (o : Option ℕ) (child : ℕ) → is_to child o ≡ true → o ≡ S
 leads_to None child is = absurd (false≢true is)
 leads_to (Some other) child is = ap (λ (n : ℕ). Some n) (eqb-true other child is)
 
-pub is_ready : (whole : Whole) (actor parent pivot child : ℕ) → writes whole actor parent ≡ true → writes whole actor child ≡ true → parent < length whole.nodes → pivot_to (node_at whole.nodes parent).pivots child ≡ Some pivot → IsReady whole actor parent pivot child
+pub is_ready : (whole : Whole) (actor parent pivot child : ℕ) → writes whole actor parent ≡ true
+    → writes whole actor child ≡ true → parent < length whole.nodes
+    → pivot_to (node_at whole.nodes parent).pivots child ≡ Some pivot → IsReady whole actor parent pivot child
 is_ready whole actor parent pivot child parent_written child_written exists found =
     let pivots = (node_at whole.nodes parent).pivots in
     let at = position-Some (λ (p : Pivot). is_to child p.child) pivots pivot bare found in

@@ -36,13 +36,15 @@ module _ (queue : Numbered) (list : List ℕ) where
   pub next_pushed : next_of (pushed queue list) ≡ next_of queue + 1
   next_pushed = let long = length-append queue.bundles (unmarked list ∷ []) in omega arith
 
-  bundle_before : (n : ℕ) → n < next_of queue → queue.first ≤ n → bundle_at (pushed queue list) n ≡ bundle_at queue n
+  bundle_before : (n : ℕ) → n < next_of queue → queue.first ≤ n
+      → bundle_at (pushed queue list) n ≡ bundle_at queue n
   bundle_before n below above = get_or_append_left queue.bundles (unmarked list ∷ []) (unmarked []) (n - queue.first) (omega arith)
 
   bundle_last : (n : ℕ) → n ≡ next_of queue → bundle_at (pushed queue list) n ≡ unmarked list
   bundle_last n is = get_or_push queue.bundles (unmarked list) (unmarked []) (n - queue.first) (omega arith)
 
-  run_before : (first last : ℕ) → first ≤ last → last < next_of queue → branches_from (pushed queue list) first (last + 1) ≡ branches_from queue first (last + 1)
+  run_before : (first last : ℕ) → first ≤ last → last < next_of queue
+      → branches_from (pushed queue list) first (last + 1) ≡ branches_from queue first (last + 1)
   run_before first last order below =
       let from = first - queue.first in
       let count = last + 1 - max first queue.first in
@@ -51,11 +53,13 @@ module _ (queue : Numbered) (list : List ℕ) where
       ap (λ (bundles : List Bundle). joined (take count bundles)) (drop-append-le from queue.bundles (unmarked list ∷ []) (omega arith))
       ∙ ap joined (take-append-le count rest (unmarked list ∷ []) (omega arith))
 
-full_pushed : (bundles : List Bundle) (list : List ℕ) → 0 < length list → StartsFull bundles → StartsFull (bundles ++ unmarked list ∷ [])
+full_pushed : (bundles : List Bundle) (list : List ℕ) → 0 < length list → StartsFull bundles
+    → StartsFull (bundles ++ unmarked list ∷ [])
 full_pushed [] list some full = some
 full_pushed (bundle ∷ bundles) list some full = full
 
-held_pushed : (node : NodeData) (list : List ℕ) (who : ℕ) (run : Run) → run.first ≤ run.last → HoldsRun node who run → HoldsRun (with_lists node (pushed node.lists list)) who run
+held_pushed : (node : NodeData) (list : List ℕ) (who : ℕ) (run : Run) → run.first ≤ run.last
+    → HoldsRun node who run → HoldsRun (with_lists node (pushed node.lists list)) who run
 held_pushed node list who run order holds = record {
   stands = (holds.stands.0, let next = next_pushed node.lists list in omega (arith, holds.stands.1));
   marks = λ n above below stands.
@@ -68,7 +72,8 @@ held_pushed node list who run order holds = record {
   oldest = holds.oldest;
 }
 
-held_marked : (node : NodeData) (pivot who : ℕ) (run : Run) → HoldsRun node who run → HoldsRun (with_mark node pivot (next_of node.lists)) who run
+held_marked : (node : NodeData) (pivot who : ℕ) (run : Run) → HoldsRun node who run
+    → HoldsRun (with_mark node pivot (next_of node.lists)) who run
 held_marked node pivot who run holds = record {
   stands = holds.stands;
   marks = holds.marks;
@@ -80,7 +85,9 @@ held_marked node pivot who run holds = record {
 }
 
 -- what a job has of a run where one of its bundles stands
-in_run : (node after : NodeData) (bundle who : ℕ) → ((run : Run) → run.first ≤ run.last → bundle ≤ run.last → HoldsRun node who run → HoldsRun after who run) → (j : Option Job) → IsInRun node bundle who j → IsInRun after bundle who j
+in_run : (node after : NodeData) (bundle who : ℕ)
+    → ((run : Run) → run.first ≤ run.last → bundle ≤ run.last → HoldsRun node who run
+    → HoldsRun after who run) → (j : Option Job) → IsInRun node bundle who j → IsInRun after bundle who j
 in_run node after bundle who holds None is = is
 in_run node after bundle who holds (Some (Pack n table)) is = is
 in_run node after bundle who holds (Some (Merge n run)) is = (is.0, is.1, holds run (omega (arith, is.0, is.1)) is.1 is.2)
@@ -89,7 +96,8 @@ in_run node after bundle who holds (Some (Merge n run)) is = (is.0, is.1, holds 
 abbrev AreHere : List Actor → NodeData → Type 0
 AreHere actors node = (bundle who : ℕ) → Stands node.lists bundle → (bundle_at node.lists bundle).owner ≡ Some who → (who < ACTORS) × IsInRun node bundle who (actor_in actors who).job
 
-here_pushed : (actors : List Actor) (node : NodeData) (list : List ℕ) → AreHere actors node → AreHere actors (with_lists node (pushed node.lists list))
+here_pushed : (actors : List Actor) (node : NodeData) (list : List ℕ) → AreHere actors node
+    → AreHere actors (with_lists node (pushed node.lists list))
 here_pushed actors node list are bundle who stands owned = elim (cases_lt bundle (next_of node.lists)) [
   | inl before ↦
       let was = are bundle who (stands.0, before) (sym (ap (λ (b : Bundle). b.owner) (bundle_before node.lists list bundle before stands.0)) ∙ owned) in
@@ -100,11 +108,13 @@ here_pushed actors node list are bundle who stands owned = elim (cases_lt bundle
       absurd (no_owner who (sym (ap (λ (b : Bundle). b.owner) (bundle_last node.lists list bundle is)) ∙ owned))
 ]
 
-here_received : (actors : List Actor) (node : NodeData) (list : List ℕ) → AreHere actors node → AreHere actors (received node list)
+here_received : (actors : List Actor) (node : NodeData) (list : List ℕ) → AreHere actors node
+    → AreHere actors (received node list)
 here_received actors node [] are = are
 here_received actors node (branch ∷ list) are = here_pushed actors node (branch ∷ list) are
 
-here_passed : (actors : List Actor) (node : NodeData) (pivot : ℕ) → AreHere actors node → AreHere actors (passed node pivot)
+here_passed : (actors : List Actor) (node : NodeData) (pivot : ℕ) → AreHere actors node
+    → AreHere actors (passed node pivot)
 here_passed actors node pivot are bundle who stands owned =
     let marked = with_mark node pivot (next_of node.lists) in
     let next = next_trimmed marked in
@@ -115,11 +125,13 @@ here_passed actors node pivot are bundle who stands owned =
     (was.0, in_run node (passed node pivot) bundle who (λ run order upto holds. held_trimmed marked who run order (omega arith) (held_marked node pivot who run holds)) (actor_in actors who).job was.1)
 
 -- what of the child a list that it receives leaves
-pub received_parts : {X : Type 0} (f : NodeData → X) (node : NodeData) (list : List ℕ) → f (with_lists node (pushed node.lists list)) ≡ f node → f (received node list) ≡ f node
+pub received_parts : {X : Type 0} (f : NodeData → X) (node : NodeData) (list : List ℕ)
+    → f (with_lists node (pushed node.lists list)) ≡ f node → f (received node list) ≡ f node
 received_parts f node [] same = refl
 received_parts f node (branch ∷ list) same = same
 
-names_received : (n : ℕ) (node : NodeData) (list : List ℕ) → times n (names (received node list).lists) ≡ times n (names node.lists) + times n list
+names_received : (n : ℕ) (node : NodeData) (list : List ℕ)
+    → times n (names (received node list).lists) ≡ times n (names node.lists) + times n list
 names_received n node [] = omega arith
 names_received n node (branch ∷ list) = ap (times n) (names-pushed node.lists (branch ∷ list)) ∙ times-append n (names node.lists) (branch ∷ list)
 
@@ -127,16 +139,19 @@ ends_received : (node : NodeData) (list : List ℕ) → HasEnds node → HasEnds
 ends_received node [] ends = ends
 ends_received node (branch ∷ list) ends = record { mark = ends.mark; front = full_pushed node.lists.bundles (branch ∷ list) (omega arith) ends.front }
 
-next_received : (node : NodeData) (list : List ℕ) → next_of (received node list).lists ≤ next_of node.lists + 1
+next_received : (node : NodeData) (list : List ℕ)
+    → next_of (received node list).lists ≤ next_of node.lists + 1
 next_received node [] = omega arith
 next_received node (branch ∷ list) = let next = next_pushed node.lists (branch ∷ list) in omega arith
 
-names_passed : (n : ℕ) (node : NodeData) (pivot : ℕ) → times n (dead_names node pivot) + times n (names (passed node pivot).lists) ≡ times n (names node.lists)
+names_passed : (n : ℕ) (node : NodeData) (pivot : ℕ)
+    → times n (dead_names node pivot) + times n (names (passed node pivot).lists) ≡ times n (names node.lists)
 names_passed n node pivot =
     let marked = with_mark node pivot (next_of node.lists) in
     sym (times-append n (dead_names node pivot) (names (passed node pivot).lists)) ∙ ap (times n) (names-dropped node.lists (kept_from marked))
 
-module _ (nodes : List NodeData) (shaped : IsShaped nodes) (parent pivot child : ℕ) (led : IsLed nodes parent pivot child) where
+module _ (nodes : List NodeData) (shaped : IsShaped nodes) (parent pivot child : ℕ)
+    (led : IsLed nodes parent pivot child) where
   abbrev pub from : NodeData
   from = node_at nodes parent
 
@@ -190,7 +205,8 @@ module _ (nodes : List NodeData) (shaped : IsShaped nodes) (parent pivot child :
       ∙ get_or-set_other nodes child n (received to live) (fresh 0 bare) not_child
 
   -- what holds of the parent, of the child and of the others holds of each
-  pub each_node : (P : ℕ → NodeData → Type 0) → P parent (passed from pivot) → P child (received to live) → ((n : ℕ) → n ≢ parent → n ≢ child → P n (node_at nodes n)) → (n : ℕ) → P n (node_at after n)
+  pub each_node : (P : ℕ → NodeData → Type 0) → P parent (passed from pivot) → P child (received to live)
+      → ((n : ℕ) → n ≢ parent → n ≢ child → P n (node_at nodes n)) → (n : ℕ) → P n (node_at after n)
   each_node P of_parent of_child of_others n = elim (cases_eq n parent) [
     | inl here ↦ subst (λ (m : ℕ). P m (node_at after m)) (sym here) (subst (λ (node : NodeData). P parent node) (sym parent_is) of_parent)
     | inr away ↦ elim (cases_eq n child) [
@@ -199,7 +215,8 @@ module _ (nodes : List NodeData) (shaped : IsShaped nodes) (parent pivot child :
     ]
   ]
 
-  pub all_nodes : (P : NodeData → Type 0) → P (passed from pivot) → P (received to live) → All P nodes → All P after
+  pub all_nodes : (P : NodeData → Type 0) → P (passed from pivot) → P (received to live) → All P nodes
+      → All P after
   all_nodes P of_parent of_child all = All-set P between parent (passed from pivot) of_parent (All-set P nodes child (received to live) of_child all)
 
   -- heights stay
@@ -207,7 +224,8 @@ module _ (nodes : List NodeData) (shaped : IsShaped nodes) (parent pivot child :
   same_height = each_node (λ (n : ℕ) (node : NodeData). node.height ≡ (node_at nodes n).height) refl (received_parts (λ (node : NodeData). node.height) to live refl) (λ n away off. refl)
 
   -- what is live is named once more, and what is dead once less
-  pub named_now : (n : ℕ) → times n (named after) + times n (dead_names from pivot) ≡ times n (named nodes) + times n live
+  pub named_now : (n : ℕ) → times n (named after) + times n (dead_names from pivot) ≡ times n
+      (named nodes) + times n live
   named_now n =
       let first = times-replaced (λ (node : NodeData). names node.lists) n nodes child (received to live) (fresh 0 bare) there in
       let second = times-replaced (λ (node : NodeData). names node.lists) n between parent (passed from pivot) (fresh 0 bare) (omega (arith, led.exists, long_between)) in
@@ -240,7 +258,9 @@ module _ (nodes : List NodeData) (shaped : IsShaped nodes) (parent pivot child :
             0 refl;
       }
 
-  pub next_numbers : (steps : ℕ) → All (λ (node : NodeData). next_of node.lists ≤ steps) nodes → All (λ (node : NodeData). next_of node.lists < steps) nodes → All (λ (node : NodeData). next_of node.lists ≤ steps) after
+  pub next_numbers : (steps : ℕ) → All (λ (node : NodeData). next_of node.lists ≤ steps) nodes
+      → All (λ (node : NodeData). next_of node.lists < steps) nodes
+      → All (λ (node : NodeData). next_of node.lists ≤ steps) after
   next_numbers steps all room =
       let below = All-get_or (λ (node : NodeData). next_of node.lists < steps) nodes child (fresh 0 bare) there room in
       let upto = All-get_or (λ (node : NodeData). next_of node.lists ≤ steps) nodes parent (fresh 0 bare) led.exists all in
@@ -248,7 +268,8 @@ module _ (nodes : List NodeData) (shaped : IsShaped nodes) (parent pivot child :
       let more = next_received to live in
       all_nodes (λ (node : NodeData). next_of node.lists ≤ steps) (omega arith) (omega arith) all
 
-  pub generations : (steps : ℕ) → All (λ (node : NodeData). node.generation ≤ steps) nodes → All (λ (node : NodeData). node.generation ≤ steps) after
+  pub generations : (steps : ℕ) → All (λ (node : NodeData). node.generation ≤ steps) nodes
+      → All (λ (node : NodeData). node.generation ≤ steps) after
   generations steps all =
       let of : (n : ℕ) → n < length nodes → (node_at nodes n).generation ≤ steps = λ n below. All-get_or (λ (node : NodeData). node.generation ≤ steps) nodes n (fresh 0 bare) below all in
       all_nodes (λ (node : NodeData). node.generation ≤ steps) (of parent led.exists)
@@ -260,7 +281,8 @@ module _ (nodes : List NodeData) (shaped : IsShaped nodes) (parent pivot child :
     pub parent_stays : node_at middle parent ≡ from
     parent_stays = ap (λ (ns : List NodeData). node_at ns parent) made ∙ from_between
 
-    pub flushed_made : (end : List NodeData) → end ≡ set middle parent (passed (node_at middle parent) pivot) → end ≡ after
+    pub flushed_made : (end : List NodeData) → end ≡ set middle parent (passed (node_at middle parent) pivot)
+        → end ≡ after
     flushed_made end is =
         is
         ∙ ap (λ (node : NodeData). set middle parent (passed node pivot)) parent_stays

@@ -12,7 +12,8 @@ use Rattle.spl_flush.specs.Flushing.{is_to, names_below}
 
 module _ {X : Type 0} (p : X → Bool) (xs : List X) (d : X) where
   -- the first that passes
-  pub position_found : (i : ℕ) → i < length xs → ((k : ℕ) → k < i → p (get_or xs k d) ≡ false) → p (get_or xs i d) ≡ true → position p xs ≡ Some i
+  pub position_found : (i : ℕ) → i < length xs → ((k : ℕ) → k < i → p (get_or xs k d) ≡ false)
+      → p (get_or xs i d) ≡ true → position p xs ≡ Some i
   position_found i within fails passes =
       let is = position_or_len_is p xs i d (omega arith) fails (λ below. passes) in
       ap (λ (n : ℕ). cond {A = Option ℕ} (nat_lt n (length xs)) (Some n) None) is
@@ -30,13 +31,16 @@ leads_here None child = refl
 leads_here (Some other) child = refl
 
 -- the branches of the bundles below a number, from the first on
-pub names_from_first : (queue : Numbered) (number : ℕ) → live_below queue queue.first number ≡ names_below queue number
+pub names_from_first : (queue : Numbered) (number : ℕ)
+    → live_below queue queue.first number ≡ names_below queue number
 names_from_first queue number =
     let none : queue.first - queue.first ≡ 0 = omega arith in
     ap (λ (n : ℕ). joined (take (number - queue.first) (drop n queue.bundles))) none
 
 -- from a bundle on: its own, and then those behind it
-pub names_next : (queue : Numbered) (from number : ℕ) → queue.first ≤ from → from < number → number ≤ next_of queue → live_below queue from number ≡ (bundle_at queue from).branches ++ live_below queue (from + 1) number
+pub names_next : (queue : Numbered) (from number : ℕ) → queue.first ≤ from → from < number
+    → number ≤ next_of queue → live_below queue from number ≡
+    (bundle_at queue from).branches ++ live_below queue (from + 1) number
 names_next queue from number stands below made =
     let k = from - queue.first in
     let more : number - from ≡ suc (number - (from + 1)) = omega arith in
@@ -44,7 +48,9 @@ names_next queue from number stands below made =
     ∙ ap (λ (n : ℕ). joined (take n (bundle_at queue from ∷ drop (k + 1) queue.bundles))) more
     ∙ ap (λ (n : ℕ). (bundle_at queue from).branches ++ joined (take (number - (from + 1)) (drop n queue.bundles))) (omega arith)
 
-length-joined : (bundles : List Bundle) → All (λ (bundle : Bundle). length bundle.branches ≤ MAX_BRANCHES) bundles → length (joined bundles) ≤ MAX_BRANCHES * length bundles
+length-joined : (bundles : List Bundle)
+    → All (λ (bundle : Bundle). length bundle.branches ≤ MAX_BRANCHES) bundles
+    → length (joined bundles) ≤ MAX_BRANCHES * length bundles
 length-joined [] all = omega arith
 length-joined (bundle ∷ bundles) all =
     let parts = length-append bundle.branches (joined bundles) in
@@ -59,7 +65,9 @@ length-back bundles k =
     omega arith
 
 -- at most so many branches are live
-pub live_few : (queue : Numbered) (mark : ℕ) → All (λ (bundle : Bundle). length bundle.branches ≤ MAX_BRANCHES) queue.bundles → length queue.bundles ≤ 24 → length (live queue mark) ≤ 768
+pub live_few : (queue : Numbered) (mark : ℕ)
+    → All (λ (bundle : Bundle). length bundle.branches ≤ MAX_BRANCHES) queue.bundles
+    → length queue.bundles ≤ 24 → length (live queue mark) ≤ 768
 live_few queue mark all few =
     let most = length-joined queue.bundles all in
     let back = length-back queue.bundles (mark - queue.first) in

@@ -17,7 +17,9 @@ use Rattle.spl_state.specs.Bounds.{StartsFull}
 use Rattle.spl_state.specs.Runs.{HoldsRun}
 
 -- a bundle that is passed over though it is live for some pivot is empty
-passed_empty : (least number : ℕ) (bundles : List Bundle) (k : ℕ) → number + k < first_from least number bundles → least ≤ number + k → (get_or bundles k (unmarked [])).branches ≡ []
+passed_empty : (least number : ℕ) (bundles : List Bundle) (k : ℕ)
+    → number + k < first_from least number bundles → least ≤ number + k
+    → (get_or bundles k (unmarked [])).branches ≡ []
 passed_empty least number [] k below from = absurd (omega arith)
 passed_empty least number (bundle ∷ bundles) zero below from =
     choose (nat_lt number least || is_empty bundle) (first_from least (number + 1) bundles) number (λ n. number + 0 < n → bundle.branches ≡ [])
@@ -25,7 +27,8 @@ passed_empty least number (bundle ∷ bundles) zero below from =
     (λ ends below. absurd (omega arith))
     below
   where
-    by : (b : Bool) → nat_lt number least ≡ b → (nat_lt number least || is_empty bundle) ≡ true → bundle.branches ≡ []
+    by : (b : Bool) → nat_lt number least ≡ b → (nat_lt number least || is_empty bundle) ≡ true
+        → bundle.branches ≡ []
     by true e passed = let lower = ltb-true number least e in absurd (omega arith)
     by false e passed =
         let short = ltb-true (length bundle.branches) 1 (sym (ap (λ b. b || is_empty bundle) e) ∙ passed) in
@@ -52,7 +55,8 @@ from_above least number (bundle ∷ bundles) =
     (λ ends. omega arith)
 
 -- the first bundle that is kept has branches
-first_full : (least number : ℕ) (bundles : List Bundle) → StartsFull (drop (first_from least number bundles - number) bundles)
+first_full : (least number : ℕ) (bundles : List Bundle)
+    → StartsFull (drop (first_from least number bundles - number) bundles)
 first_full least number [] = subst (λ (bundles : List Bundle). StartsFull bundles) (sym (drop_all (number - number) [] (omega arith))) tt
 first_full least number (bundle ∷ bundles) =
     choose (nat_lt number least || is_empty bundle) (first_from least (number + 1) bundles) number (λ n. StartsFull (drop (n - number) (bundle ∷ bundles)))
@@ -66,7 +70,8 @@ first_full least number (bundle ∷ bundles) =
     subst (λ (n : ℕ). StartsFull (drop n (bundle ∷ bundles))) (sym none) full)
 
 -- no bundle below the least mark is kept
-least_passed : (least number : ℕ) (bundles : List Bundle) → least ≤ number + length bundles → least ≤ first_from least number bundles
+least_passed : (least number : ℕ) (bundles : List Bundle) → least ≤ number + length bundles
+    → least ≤ first_from least number bundles
 least_passed least number [] upto = omega arith
 least_passed least number (bundle ∷ bundles) upto =
     choose (nat_lt number least || is_empty bundle) (first_from least (number + 1) bundles) number (λ n. least ≤ n)
@@ -77,19 +82,24 @@ least_start : (start : ℕ) (pivots : List Pivot) → fold (λ n pivot. min n pi
 least_start start [] = omega arith
 least_start start (pivot ∷ pivots) = let rest = least_start (min start pivot.mark) pivots in omega arith
 
-least_at : (start : ℕ) (pivots : List Pivot) (i : ℕ) (d : Pivot) → i < length pivots → fold (λ n pivot. min n pivot.mark) start pivots ≤ (get_or pivots i d).mark
+least_at : (start : ℕ) (pivots : List Pivot) (i : ℕ) (d : Pivot) → i < length pivots
+    → fold (λ n pivot. min n pivot.mark) start pivots ≤ (get_or pivots i d).mark
 least_at start [] i d within = absurd (omega arith)
 least_at start (pivot ∷ pivots) zero d within = let rest = least_start (min start pivot.mark) pivots in omega arith
 least_at start (pivot ∷ pivots) (suc i) d within = least_at (min start pivot.mark) pivots i d (omega arith)
 
-least_above : (bound start : ℕ) (pivots : List Pivot) → bound ≤ start → All (λ (pivot : Pivot). bound ≤ pivot.mark) pivots → bound ≤ fold (λ n pivot. min n pivot.mark) start pivots
+least_above : (bound start : ℕ) (pivots : List Pivot) → bound ≤ start
+    → All (λ (pivot : Pivot). bound ≤ pivot.mark) pivots
+    → bound ≤ fold (λ n pivot. min n pivot.mark) start pivots
 least_above bound start [] below all = below
 least_above bound start (pivot ∷ pivots) below all =
     let first : bound ≤ pivot.mark = all 0 pivot (omega arith) in
     least_above bound (min start pivot.mark) pivots (omega arith) (λ i d within. all (suc i) d (omega arith))
 
 -- empty bundles at the begin of a run are no matter
-joined_skipped : (bundles : List Bundle) (n a count : ℕ) → a + n ≤ length bundles → ((k : ℕ) → a ≤ k → k < a + n → (get_or bundles k (unmarked [])).branches ≡ []) → joined (take (n + count) (drop a bundles)) ≡ joined (take count (drop (a + n) bundles))
+joined_skipped : (bundles : List Bundle) (n a count : ℕ) → a + n ≤ length bundles
+    → ((k : ℕ) → a ≤ k → k < a + n → (get_or bundles k (unmarked [])).branches ≡ [])
+    → joined (take (n + count) (drop a bundles)) ≡ joined (take count (drop (a + n) bundles))
 joined_skipped bundles zero a count within none =
     let same : 0 + count ≡ count = omega arith in
     ap (λ (m : ℕ). joined (take m (drop a bundles))) same ∙ ap (λ (m : ℕ). joined (take count (drop m bundles))) (omega arith)
@@ -112,7 +122,8 @@ module _ (node : NodeData) where
       omega arith
 
   -- a bundle that stands stood so before
-  pub bundle_trimmed : (number : ℕ) → kept ≤ number → bundle_at (trimmed node).lists number ≡ bundle_at node.lists number
+  pub bundle_trimmed : (number : ℕ) → kept ≤ number
+      → bundle_at (trimmed node).lists number ≡ bundle_at node.lists number
   bundle_trimmed number above =
       let least = kept_from-ge node in
       get_or-drop (kept - node.lists.first) node.lists.bundles (number - max node.lists.first kept) (unmarked [])
@@ -121,9 +132,11 @@ module _ (node : NodeData) where
   pub starts_full : StartsFull (trimmed node).lists.bundles
   starts_full = first_full (least_mark node) node.lists.first node.lists.bundles
 
-  module _ (first last : ℕ) (order : first ≤ last) (made : last < next_of node.lists) (stands : kept ≤ last) (uncut : IsUncut node first last) where
+  module _ (first last : ℕ) (order : first ≤ last) (made : last < next_of node.lists) (stands : kept ≤ last)
+      (uncut : IsUncut node first last) where
     -- what is passed over of the run is empty
-    run_empty : (k : ℕ) → max first node.lists.first ≤ node.lists.first + k → node.lists.first + k < kept → (get_or node.lists.bundles k (unmarked [])).branches ≡ []
+    run_empty : (k : ℕ) → max first node.lists.first ≤ node.lists.first + k → node.lists.first + k < kept
+        → (get_or node.lists.bundles k (unmarked [])).branches ≡ []
     run_empty k from below = elim (cases_lt (node.lists.first + k) (least_mark node)) [
       | inl lower ↦
           let behind : All (λ (pivot : Pivot). last + 1 ≤ pivot.mark) node.pivots = λ i d within. elim (uncut i d within) [
@@ -138,7 +151,8 @@ module _ (node : NodeData) where
     ]
 
     -- so a run of which some bundle stands has the branches that it had
-    run_trimmed : branches_from (trimmed node).lists first (last + 1) ≡ branches_from node.lists first (last + 1)
+    run_trimmed : branches_from (trimmed node).lists first (last + 1) ≡ branches_from node.lists first
+        (last + 1)
     run_trimmed =
         let bundles = node.lists.bundles in
         let low = kept_from-ge node in
@@ -160,7 +174,8 @@ module _ (node : NodeData) where
         ])
 
   -- a run of which some bundle stands is held as before
-  pub held_trimmed : (who : ℕ) (run : Run) → run.first ≤ run.last → kept ≤ run.last → HoldsRun node who run → HoldsRun (trimmed node) who run
+  pub held_trimmed : (who : ℕ) (run : Run) → run.first ≤ run.last → kept ≤ run.last → HoldsRun node who run
+      → HoldsRun (trimmed node) who run
   held_trimmed who run order some holds =
       let low = kept_from-ge node in
       record {

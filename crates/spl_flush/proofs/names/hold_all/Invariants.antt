@@ -6,6 +6,7 @@ use Rattle.spl_flush.proofs.names.hold_all.Given as goal
 -- the branches so far are counted once more
 abbrev pub invariant-loop-number : goal.invariant-loop-number
 invariant-loop-number g l = record {
-  counts : (number : ℕ) → count_at l.refs number ≡ count_at l.initial.refs number + times number (take l.number-index l.numbers);
+  counts : (number : ℕ) → count_at l.refs number ≡ count_at l.initial.refs number + times number
+      (take l.number-index l.numbers);
   branches : (number : ℕ) → branch_at l.refs number ≡ branch_at l.initial.refs number;
 }

@@ -22,7 +22,8 @@ data_of g = branch_data g.B.Content.extents g.B.Content.entries g.B.Content.cuts
 abbrev before : (g : Over) → After-is_full g → Whole
 before g c = whole_of (data_of g) c.parts.inside
 
-ready : (g : Over) (c : After-is_full g) → IsReady (before g c) c.args.actor c.args.parent c.in-Some.pivot c.args.child
+ready : (g : Over) (c : After-is_full g)
+    → IsReady (before g c) c.args.actor c.args.parent c.in-Some.pivot c.args.child
 ready g c =
     let old = before g c in
     let parent_written : writes old c.args.actor c.args.parent ≡ true = search rules in
@@ -59,7 +60,9 @@ pass-requires-clause-accounted g c =
 abbrev after : (g : Over) → After-pass g → Whole
 after g c = whole_of (data_of g) (record c.parts.inside { trunk = c.pass.new.trunk; refs = c.pass.new.refs; pool = c.pass.new.pool })
 
-leaves_it : (g : Over) (c : After-pass g) → Leaves (whole_of (data_of g) c.parts.inside) (after g c) c.args.actor c.args.parent c.in-Some.pivot c.args.child
+leaves_it : (g : Over) (c : After-pass g)
+    → Leaves (whole_of (data_of g) c.parts.inside)
+    (after g c) c.args.actor c.args.parent c.in-Some.pivot c.args.child
 leaves_it g c =
     let old = whole_of (data_of g) c.parts.inside in
     let is = ready g (goal.at.invariant_of-parts g c).After-is_full in
