@@ -50,7 +50,9 @@ pub mark_made : (nodes : List NodeData) (shaped : IsShaped nodes) (parent pivot 
     → (pivot_at (node_at middle parent).pivots pivot).mark ≤ next_of (node_at middle parent).lists
 mark_made nodes shaped parent pivot child led middle made =
     let is = All-get_or IsNode nodes parent (fresh 0 bare) led.exists shaped.each in
-    subst (λ (node : NodeData). (pivot_at node.pivots pivot).mark ≤ next_of node.lists) (sym (parent_stays nodes shaped parent pivot child led middle made)) (mark_at (node_at nodes parent) is pivot led.within).1
+    subst (λ (node : NodeData). (pivot_at node.pivots pivot).mark ≤ next_of node.lists)
+    (sym (parent_stays nodes shaped parent pivot child led middle made))
+    (mark_at (node_at nodes parent) is pivot led.within).1
 
 module _ {B : Type 0} (extents_of : B → List ℕ) (data_of : B → BranchData)
     (same : (branch : B) → (data_of branch).extents ≡ extents_of branch) (old : Whole) (sound : IsSound old)
@@ -68,12 +70,14 @@ module _ {B : Type 0} (extents_of : B → List ℕ) (data_of : B → BranchData)
   there : AreAccounted extents_of (mentioned old.nodes old.actors) refs old.owners
   there =
       accounts_there extents_of data_of same (mentioned old.nodes old.actors) refs old.owners
-      (subst (λ (r : Published BranchData). AccountsForExtents (mentioned old.nodes old.actors) (count_at r) (branch_at r) old.owners) is_refs sound.extents)
+      (subst (λ (r : Published BranchData). AccountsForExtents (mentioned old.nodes old.actors) (count_at r)
+      (branch_at r) old.owners) is_refs sound.extents)
 
   -- what is live is named
   live_mentioned : (n : ℕ) → 0 < times n live → 0 < times n (mentioned old.nodes old.actors)
   live_mentioned n some =
-      let inside = live_named n (node_at old.nodes parent).lists (pivot_at (node_at old.nodes parent).pivots pivot).mark in
+      let inside = live_named n (node_at old.nodes parent).lists
+      (pivot_at (node_at old.nodes parent).pivots pivot).mark in
       let node = node_named n old.nodes parent in
       let parts = times-append n (named old.nodes) (flat_map named_by old.actors) in
       omega arith
@@ -81,10 +85,12 @@ module _ {B : Type 0} (extents_of : B → List ℕ) (data_of : B → BranchData)
   pub live_stands : (n : ℕ) → 0 < times n live → IsSome (held_at refs n)
   live_stands n some =
       let named = live_mentioned n some in
-      stands_held (held_at refs n) ((there.stands n).1 (subst (λ (count : ℕ). 0 < count) (sym (there.counts n)) named))
+      stands_held (held_at refs n) ((there.stands n).1
+      (subst (λ (count : ℕ). 0 < count) (sym (there.counts n)) named))
 
   pub few_there : AreFew old → (n : ℕ) → count_at refs n < 2 ^ 62
-  few_there few n = subst (λ (count : ℕ). count < 2 ^ 62) (ap (λ (r : Published BranchData). count_at r n) is_refs ∙ count_seen data_of refs n) (few n)
+  few_there few n = subst (λ (count : ℕ). count < 2 ^ 62)
+      (ap (λ (r : Published BranchData). count_at r n) is_refs ∙ count_seen data_of refs n) (few n)
 
   -- once what is live is counted once more
   module _ (held : Published B) (more : (n : ℕ) → count_at held n ≡ count_at refs n + times n live)
@@ -94,17 +100,21 @@ module _ {B : Type 0} (extents_of : B → List ℕ) (data_of : B → BranchData)
     pub dead_first : AreAccounted extents_of
         (dead_names (node_at middle parent) pivot ++ rest) held old.owners
     dead_first =
-        subst (λ (node : NodeData). AreAccounted extents_of (dead_names node pivot ++ rest) held old.owners) (sym (parent_stays old.nodes sound.shaped parent pivot child ready.led middle made))
-        (renamed extents_of data_of same (live ++ mentioned old.nodes old.actors) (dead ++ rest) held old.owners
+        subst (λ (node : NodeData). AreAccounted extents_of (dead_names node pivot ++ rest) held old.owners)
+        (sym (parent_stays old.nodes sound.shaped parent pivot child ready.led middle made))
+        (renamed extents_of data_of same (live ++ mentioned old.nodes old.actors)
+        (dead ++ rest) held old.owners
         (as_often old sound actor parent pivot child ready)
-        (accounted_more extents_of (mentioned old.nodes old.actors) live refs held old.owners more branches live_mentioned there))
+        (accounted_more extents_of (mentioned old.nodes old.actors) live refs held old.owners more branches
+        live_mentioned there))
 
     stays_seen : (new : Published B) → ((n : ℕ) → 0 < count_at new n → branch_at new n ≡ branch_at held n)
         → (n : ℕ) → 0 < count_at (all_seen data_of new) n
         → branch_at (all_seen data_of new) n ≡ branch_at old.refs n
     stays_seen new stays n some =
         branch_seen data_of new n
-        ∙ ap (λ (o : Option B). option_map data_of o) (stays n (subst (λ (count : ℕ). 0 < count) (count_seen data_of new n) some) ∙ branches n)
+        ∙ ap (λ (o : Option B). option_map data_of o)
+        (stays n (subst (λ (count : ℕ). 0 < count) (count_seen data_of new n) some) ∙ branches n)
         ∙ sym (branch_seen data_of refs n)
         ∙ sym (ap (λ (r : Published BranchData). branch_at r n) is_refs)
 
@@ -123,16 +133,25 @@ module _ {B : Type 0} (extents_of : B → List ℕ) (data_of : B → BranchData)
         → ((n : ℕ) → 0 < count_at new n → branch_at new n ≡ branch_at held n)
         → ((n : ℕ) → count_at new n ≤ count_at held n)
         → ((other : ℕ) → granted_to owners other ≡ granted_to old.owners other)
-        → length live ≤ 32 → nodes ≡ set middle parent (passed (node_at middle parent) pivot) → IsShaped nodes → AreBelow old.nodes old.tables old.counters
-        → Leaves old (record old { nodes = nodes; refs = all_seen data_of new; owners = owners }) actor parent pivot child
+        → length live ≤ 32 → nodes ≡ set middle parent (passed (node_at middle parent) pivot)
+        → IsShaped nodes → AreBelow old.nodes old.tables old.counters
+        → Leaves old (record old { nodes = nodes; refs = all_seen data_of new; owners = owners })
+        actor parent pivot child
     leaves new owners nodes accounted stays fewer granted short is shaped fresh =
-        let is_nodes = flushed_made old.nodes sound.shaped parent pivot child ready.led middle made nodes is in
+        let is_nodes = flushed_made old.nodes sound.shaped parent pivot child ready.led middle made nodes
+        is in
         let accounts = accounts_seen extents_of data_of same rest new owners accounted in
         let still = stays_seen new stays in
         let shaped_now = subst (λ (ns : List NodeData). IsShaped ns) is_nodes shaped in
-        subst (λ (ns : List NodeData). Leaves old (record old { nodes = ns; refs = all_seen data_of new; owners = owners }) actor parent pivot child) (sym is_nodes) (record {
-          sound = handed_sound old sound actor parent pivot child ready (all_seen data_of new) owners accounts still granted fresh shaped_now;
-          done = is_flushed old sound actor parent pivot child ready (all_seen data_of new) owners accounts still granted;
+        let end : Whole = record old { refs = all_seen data_of new; owners = owners } in
+        let P : List NodeData → Type 0 = λ ns.
+        Leaves old (record end { nodes = ns }) actor parent pivot child in
+        subst P (sym is_nodes) (record {
+          sound = handed_sound old sound actor parent pivot child ready
+              (all_seen data_of new) owners accounts still granted fresh shaped_now;
+          done = is_flushed old sound actor parent pivot child ready
+              (all_seen data_of new) owners accounts still granted;
           named = few_more new fewer short;
-          framed = handed_framed old sound actor parent pivot child ready (all_seen data_of new) owners accounts still granted;
+          framed = handed_framed old sound actor parent pivot child ready
+              (all_seen data_of new) owners accounts still granted;
         })

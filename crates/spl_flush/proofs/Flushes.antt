@@ -80,7 +80,11 @@ free_no_write grip free write = cc
 
 -- The state in which the parent's live bundles are the child's, with these branches and owners of extents.
 abbrev pub handed : Whole → ℕ → ℕ → ℕ → Published BranchData → List Owner → Whole
-handed old parent pivot child refs owners = record old { nodes = flushed old.nodes parent pivot child; refs = refs; owners = owners }
+handed old parent pivot child refs owners = record old {
+  nodes = flushed old.nodes parent pivot child;
+  refs = refs;
+  owners = owners;
+}
 
 module _ (old : Whole) (sound : IsSound old) (actor parent pivot child : ℕ)
     (ready : IsReady old actor parent pivot child) where
@@ -101,29 +105,34 @@ module _ (old : Whole) (sound : IsSound old) (actor parent pivot child : ℕ)
       let more = times-append n live (mentioned old.nodes old.actors) in
       let less = times-append n dead left in
       let before = times-append n (named old.nodes) (flat_map named_by old.actors) in
-      let now = times-append n (named (flushed old.nodes parent pivot child)) (flat_map named_by old.actors) in
+      let now = times-append n (named (flushed old.nodes parent pivot child))
+      (flat_map named_by old.actors) in
       omega arith
 
   -- only the actor has a grip on either node
   alone_at : (other n : ℕ) → other ≢ actor → n < length old.nodes → grip_of old.grips actor n ≡ Write
       → grip_of old.grips other n ≡ Free
   alone_at other n apart below writes =
-      let latch = All-get_or IsLatched old.grips n [] (let same = sound.latches in omega arith) sound.latched in
+      let latch = All-get_or IsLatched old.grips n []
+      (let same = sound.latches in omega arith) sound.latched in
       latch.write_alone actor other (λ same. apart (sym same)) writes
 
   not_read_at : (who n m : ℕ) → m < length old.nodes → grip_of old.grips actor m ≡ Write
       → grip_of old.grips who n ≡ Read → n ≢ m
   not_read_at who n m below writes reads same =
-      let here : grip_of old.grips who m ≡ Read = subst (λ (k : ℕ). grip_of old.grips who k ≡ Read) same reads in
+      let here = subst (λ (k : ℕ). grip_of old.grips who k ≡ Read) same reads in
       elim (cases_eq who actor) [
-        | inl mine ↦ not_both (grip_of old.grips actor m) writes (subst (λ (k : ℕ). grip_of old.grips k m ≡ Read) mine here)
+        | inl mine ↦
+            let own = subst (λ (k : ℕ). grip_of old.grips k m ≡ Read) mine here in
+            not_both (grip_of old.grips actor m) writes own
         | inr other ↦ free_no_read (grip_of old.grips who m) (alone_at who m other below writes) here
       ]
 
   not_written_at : (other n m : ℕ) → other ≢ actor → m < length old.nodes → grip_of old.grips actor m ≡ Write
       → grip_of old.grips other n ≡ Write → n ≢ m
   not_written_at other n m apart below writes theirs same =
-      free_no_write (grip_of old.grips other m) (alone_at other m apart below writes) (subst (λ (k : ℕ). grip_of old.grips other k ≡ Write) same theirs)
+      free_no_write (grip_of old.grips other m) (alone_at other m apart below writes)
+      (subst (λ (k : ℕ). grip_of old.grips other k ≡ Write) same theirs)
 
   child_there : child < length old.nodes
   child_there = there old.nodes sound.shaped parent pivot child ready.led
@@ -135,7 +144,8 @@ module _ (old : Whole) (sound : IsSound old) (actor parent pivot child : ℕ)
 
   read_stays : (who n : ℕ) → grip_of old.grips who n ≡ Read
       → node_at (flushed old.nodes parent pivot child) n ≡ node_at old.nodes n
-  read_stays who n reads = others_stay n (not_read_at who n parent ready.led.exists ready.writes_parent reads) (not_read_at who n child child_there ready.writes_child reads)
+  read_stays who n reads = others_stay n (not_read_at who n parent ready.led.exists ready.writes_parent reads)
+      (not_read_at who n child child_there ready.writes_child reads)
 
   module _ (refs : Published BranchData) (owners : List Owner)
       (accounts : AccountsForExtents left (count_at refs) (branch_at refs) owners)
@@ -152,7 +162,8 @@ module _ (old : Whole) (sound : IsSound old) (actor parent pivot child : ℕ)
     still_named n some = stays n (subst (λ (count : ℕ). 0 < count) (sym (accounts.counts n)) some)
 
     in_trunk : (n : ℕ) → 0 < times n (named new.nodes) → branches new n ≡ branches old n
-    in_trunk n some = still_named n (let parts = times-append n (named new.nodes) (flat_map named_by old.actors) in omega arith)
+    in_trunk n some = still_named n (let parts = times-append n (named new.nodes)
+        (flat_map named_by old.actors) in omega arith)
 
     by_actor : (who n : ℕ) → 0 < times n (named_by (actor_in old.actors who))
         → branches new n ≡ branches old n
@@ -165,7 +176,8 @@ module _ (old : Whole) (sound : IsSound old) (actor parent pivot child : ℕ)
     draft_stays : (who : ℕ) (job : Job) → (actor_in old.actors who).job ≡ Some job
         → (actor_in old.actors who).published ≡ true
         → branches new (number_of job) ≡ branches old (number_of job)
-    draft_stays who job is done = by_actor who (number_of job) (draft_named (actor_in old.actors who).job (actor_in old.actors who).published job is done)
+    draft_stays who job is done = by_actor who (number_of job)
+        (draft_named (actor_in old.actors who).job (actor_in old.actors who).published job is done)
 
     gone : (n : ℕ) → branches old n ≡ None → branches new n ≡ None
     gone n none = elim (cases_lt 0 (count_at refs n)) [
@@ -184,7 +196,8 @@ module _ (old : Whole) (sound : IsSound old) (actor parent pivot child : ℕ)
       alone = way.alone;
       no_job = way.no_job;
       place = way.place;
-      lies = subst (λ (node : NodeData). LiesUnder node d.span) (sym (read_stays who d.node way.reads)) way.lies;
+      lies = subst (λ (node : NodeData). LiesUnder node d.span)
+          (sym (read_stays who d.node way.reads)) way.lies;
     }
 
     source_still : (who : ℕ) (job : Job) → IsOf old.nodes old.tables.frozen who job
@@ -194,18 +207,23 @@ module _ (old : Whole) (sound : IsSound old) (actor parent pivot child : ℕ)
 
     work_still : (who : ℕ) (job : Option Job) (published : Bool) → (actor_in old.actors who).job ≡ job
         → (actor_in old.actors who).published ≡ published
-        → IsAtWork old.nodes (branches old) old.owners old.tables.frozen old.counters.branches who job published → IsAtWork new.nodes (branches new) new.owners new.tables.frozen new.counters.branches who job published
+        → IsAtWork old.nodes (branches old) old.owners old.tables.frozen old.counters.branches who job
+        published → IsAtWork new.nodes
+        (branches new) new.owners new.tables.frozen new.counters.branches who job published
     work_still who None published is was work = work
     work_still who (Some job) published is was work = record {
       number = work.number;
       source = source_still who job work.source;
       unpublished = λ not_yet. gone (number_of job) (work.unpublished not_yet);
-      draft = λ done. subst (λ (o : Option BranchData). IsSome o) (sym (draft_stays who job is (was ∙ done))) (work.draft done);
-      nothing = λ done extent. ap (λ (members : List Bool). has members extent) (granted who) ∙ work.nothing done extent;
+      draft = λ done. subst (λ (o : Option BranchData). IsSome o) (sym (draft_stays who job is (was ∙ done)))
+          (work.draft done);
+      nothing = λ done extent. ap (λ (members : List Bool). has members extent) (granted who)
+          ∙ work.nothing done extent;
     }
 
     actors_stand : (n : ℕ) → n < ACTORS
-        → IsActor new.nodes (branches new) new.owners new.grips new.tables.frozen new.counters.places new.counters.branches n (actor_in new.actors n)
+        → IsActor new.nodes (branches new) new.owners new.grips new.tables.frozen new.counters.places
+        new.counters.branches n (actor_in new.actors n)
     actors_stand n below =
         let before = sound.actors n below in
         let a = actor_in old.actors n in
@@ -223,10 +241,15 @@ module _ (old : Whole) (sound : IsSound old) (actor parent pivot child : ℕ)
       places = sound.bounds.places;
       branches = sound.bounds.branches;
       memtables = sound.bounds.memtables;
-      lists = next_numbers old.nodes sound.shaped parent pivot child ready.led old.counters.steps sound.bounds.lists fresh.lists;
-      generations = generations old.nodes sound.shaped parent pivot child ready.led old.counters.steps sound.bounds.generations;
-      height = subst (λ (count : ℕ). (node_at new.nodes 0).height < count) (sym same_length) (subst (λ (height : ℕ). height < length old.nodes) (sym (same_height old.nodes sound.shaped parent pivot child ready.led 0)) sound.bounds.height);
-      numbers = λ n some. sound.bounds.numbers n (subst (λ (o : Option BranchData). IsSome o) (stays n ((accounts.stands n).0 some)) some);
+      lists = next_numbers old.nodes sound.shaped parent pivot child ready.led old.counters.steps
+          sound.bounds.lists fresh.lists;
+      generations = generations old.nodes sound.shaped parent pivot child ready.led old.counters.steps
+          sound.bounds.generations;
+      height = subst (λ (count : ℕ). (node_at new.nodes 0).height < count) (sym same_length)
+          (subst (λ (height : ℕ). height < length old.nodes)
+          (sym (same_height old.nodes sound.shaped parent pivot child ready.led 0)) sound.bounds.height);
+      numbers = λ n some. sound.bounds.numbers n
+          (subst (λ (o : Option BranchData). IsSome o) (stays n ((accounts.stands n).0 some)) some);
     }
 
     pub handed_sound : AreBelow old.nodes old.tables old.counters → IsShaped new.nodes
@@ -254,12 +277,18 @@ module _ (old : Whole) (sound : IsSound old) (actor parent pivot child : ℕ)
     table_still : (rule : Rule) (who : ℕ) (job : Job) → (actor_in old.actors who).job ≡ Some job
         → (actor_in old.actors who).published ≡ true → HasTable rule (branches old) old.tables.frozen job
         → HasTable rule (branches new) new.tables.frozen job
-    table_still rule who (Pack n t) is done had = λ i f at named_so. same_table n (draft_stays who (Pack n t) is done) ∙ had i f at named_so
+    table_still rule who (Pack n t) is done had = λ i f at named_so. same_table n
+        (draft_stays who (Pack n t) is done) ∙ had i f at named_so
     table_still rule who (Merge n run) is done had =
-        let tables = same_map (table_in (branches new)) (table_in (branches old)) run.inputs (λ m some. same_table m (by_actor who m (inputs_named m (actor_in old.actors who).job (actor_in old.actors who).published (Merge n run) is some))) in
+        let tables = same_map (table_in (branches new)) (table_in (branches old)) run.inputs
+        (λ m some. same_table m (by_actor who m
+        (inputs_named m (actor_in old.actors who).job (actor_in old.actors who).published
+        (Merge n run) is some))) in
         let own = same_table n (draft_stays who (Merge n run) is done) in
-        subst (λ (list : List Table). IsMerged rule list run.span run.bottom (table_in (branches new) n)) (sym tables)
-        (subst (λ (table : Table). IsMerged rule (map (table_in (branches old)) run.inputs) run.span run.bottom table) (sym own) had)
+        subst (λ (list : List Table). IsMerged rule list run.span run.bottom (table_in (branches new) n))
+        (sym tables)
+        (subst (λ (table : Table). IsMerged rule (map
+        (table_in (branches old)) run.inputs) run.span run.bottom table) (sym own) had)
 
     trunk_tables : (n : ℕ) → 0 < times n (named new.nodes)
         → table_in (branches new) n ≡ table_in (branches old) n
@@ -271,20 +300,27 @@ module _ (old : Whole) (sound : IsSound old) (actor parent pivot child : ℕ)
         → sub rule (table_in (branches old)) (node_at new.nodes) height n key ≡ sub rule
         (table_in (branches old)) (node_at old.nodes) height n key
     kept rule =
-        flush_kept old.nodes sound.shaped rule (table_in (branches old)) (node_at new.nodes) parent pivot child ready.led.exists ready.led.within ready.led.leads (λ n below away off. others_stay n away off)
+        flush_kept old.nodes sound.shaped rule (table_in (branches old))
+        (node_at new.nodes) parent pivot child ready.led.exists ready.led.within ready.led.leads
+        (λ n below away off. others_stay n away off)
         (parent_is old.nodes sound.shaped parent pivot child ready.led)
         (child_is old.nodes sound.shaped parent pivot child ready.led)
 
     now_as_before : (rule : Rule) (height n : ℕ) (key : List ℕ)
         → sub rule (table_in (branches new)) (node_at new.nodes) height n key ≡ sub rule
         (table_in (branches old)) (node_at new.nodes) height n key
-    now_as_before rule = sub_agrees rule new.nodes (table_in (branches old)) (table_in (branches new)) trunk_tables
+    now_as_before rule = sub_agrees rule new.nodes (table_in (branches old))
+        (table_in (branches new)) trunk_tables
 
     same_meaning : (rule : Rule) (key : List ℕ) → meaning rule new key ≡ meaning rule old key
     same_meaning rule key =
-        ap (λ (cell : Cell). act_all rule key cell (chain (tables_of old.tables) key)) (now_as_before rule (node_at new.nodes 0).height 0 key)
-        ∙ means_but_child old.nodes sound.shaped rule (table_in (branches old)) (node_at new.nodes) parent pivot child ready.led.exists ready.led.within ready.led.leads (λ n below away off. others_stay n away off)
-        (same_height old.nodes sound.shaped parent pivot child ready.led parent) (kept rule) (tables_of old.tables) key
+        ap (λ (cell : Cell). act_all rule key cell (chain (tables_of old.tables) key))
+        (now_as_before rule (node_at new.nodes 0).height 0 key)
+        ∙ means_but_child old.nodes sound.shaped rule (table_in (branches old))
+        (node_at new.nodes) parent pivot child ready.led.exists ready.led.within ready.led.leads
+        (λ n below away off. others_stay n away off)
+        (same_height old.nodes sound.shaped parent pivot child ready.led parent) (kept rule)
+        (tables_of old.tables) key
 
     sees : (rule : Rule) (tells : Bool) (other : ℕ) (d : Descent)
         → IsOnWay old.nodes old.grips old.counters.places other (actor_in old.actors other) (Some d)
@@ -293,31 +329,41 @@ module _ (old : Whole) (sound : IsSound old) (actor parent pivot child : ℕ)
         let node = node_at old.nodes d.node in
         let same = read_stays other d.node way.reads in
         let mark = (pivot_at node.pivots (pivot_from node.pivots d.span.from)).mark in
-        let part : (ℕ → Option BranchData) → ℕ → Table = λ branch number. part_of d.span (table_in branch number) in
+        let part : (ℕ → Option BranchData) → ℕ → Table = λ branch number. part_of d.span
+        (table_in branch number) in
         record {
           height = ap (λ (n : NodeData). n.height) same;
           pivots = ap (λ (n : NodeData). n.pivots) same;
-          tables = same_live new.nodes (part (branches old)) (part (branches new)) (λ n some. ap (part_of d.span) (trunk_tables n some)) d.node (pivot_at (node_at new.nodes d.node).pivots (pivot_from (node_at new.nodes d.node).pivots d.span.from)).mark
+          tables = same_live new.nodes (part (branches old)) (part (branches new))
+              (λ n some. ap (part_of d.span) (trunk_tables n some)) d.node
+              (pivot_at (node_at new.nodes d.node).pivots
+              (pivot_from (node_at new.nodes d.node).pivots d.span.from)).mark
               ∙ ap (λ (n : NodeData). tables_under (branches old) n d.span) same;
           rest = λ told key inside.
               now_as_before rule (node_at new.nodes d.node).height d.node key
-              ∙ ap (λ (height : ℕ). sub rule (table_in (branches old)) (node_at new.nodes) height d.node key) (ap (λ (n : NodeData). n.height) same)
-              ∙ kept rule node.height d.node key way.exists (not_read_at other d.node child child_there ready.writes_child way.reads) refl (way.lies.within key inside);
+              ∙ ap (λ (height : ℕ). sub rule (table_in (branches old)) (node_at new.nodes) height d.node key)
+              (ap (λ (n : NodeData). n.height) same)
+              ∙ kept rule node.height d.node key way.exists
+              (not_read_at other d.node child child_there ready.writes_child way.reads) refl
+              (way.lies.within key inside);
         }
 
     source_kept : (other : ℕ) (job : Job) → (actor_in old.actors other).job ≡ Some job
         → SeesSource old new job
     source_kept other (Pack n t) is = λ i f at named_so. (i, at)
     source_kept other (Merge n run) is = λ m among.
-        by_actor other m (inputs_named m (actor_in old.actors other).job (actor_in old.actors other).published (Merge n run) is (stands_in m run.inputs among.0 among.1 among.2))
+        by_actor other m (inputs_named m (actor_in old.actors other).job (actor_in old.actors other).published
+        (Merge n run) is (stands_in m run.inputs among.0 among.1 among.2))
 
     keeps : (other n : ℕ) → other ≢ actor → grip_of old.grips other n ≡ Write → KeepsNode old new n
     keeps other n apart theirs =
-        let same = others_stay n (not_written_at other n parent apart ready.led.exists ready.writes_parent theirs) (not_written_at other n child apart child_there ready.writes_child theirs) in
+        let same = others_stay n (not_written_at other n parent apart ready.led.exists ready.writes_parent
+        theirs) (not_written_at other n child apart child_there ready.writes_child theirs) in
         record {
           pivots = ap (λ (node : NodeData). length node.pivots) same;
           bundles = ap (λ (node : NodeData). length node.lists.bundles) same;
-          split = same_split (branches old) (branches new) (node_at new.nodes n) (λ m some. in_trunk m (let all = node_named m new.nodes n in omega arith))
+          split = same_split (branches old) (branches new) (node_at new.nodes n)
+              (λ m some. in_trunk m (let all = node_named m new.nodes n in omega arith))
               ∙ ap (λ (node : NodeData). split_key (branches old) node) same;
         }
 
@@ -330,7 +376,9 @@ module _ (old : Whole) (sound : IsSound old) (actor parent pivot child : ℕ)
         actor = refl;
         grips = λ node. refl;
         extents = granted other;
-        descent = λ d is. sees rule tells other d (subst (λ (o : Option Descent). IsOnWay old.nodes old.grips old.counters.places other (actor_in old.actors other) o) is (sound.actors other below).descent);
+        descent = λ d is. sees rule tells other d
+            (subst (λ (o : Option Descent). IsOnWay old.nodes old.grips old.counters.places other
+            (actor_in old.actors other) o) is (sound.actors other below).descent);
         job = λ job is. source_kept other job is;
         written = λ n theirs. keeps other n apart theirs;
       };

@@ -43,5 +43,10 @@ is_ready whole actor parent pivot child parent_written child_written exists foun
     record {
       writes_parent = is_writing (grip_of whole.grips actor parent) parent_written;
       writes_child = is_writing (grip_of whole.grips actor child) child_written;
-      led = record { exists = exists; within = at.0; leads = leads_to (pivot_at pivots pivot).child child at.1 };
+      led = record {
+        exists = exists;
+        within = at.0;
+        leads = leads_to
+            (pivot_at pivots pivot).child child at.1;
+      };
     }

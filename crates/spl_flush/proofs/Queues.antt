@@ -8,7 +8,7 @@ use Rattle.std.proofs.lemmas.List.Sums.{position_or_len_is}
 use Rattle.spl_bundle.specs.declared.bundles.TheConstants.{MAX_BRANCHES}
 use Rattle.spl_bundle.specs.Numbered.{Numbered, Bundle, unmarked, bundle_at, next_of, joined, live}
 use Rattle.spl_bundle.proofs.Live.{live_below, joined-append}
-use Rattle.spl_flush.specs.Flushing.{is_to, names_below}
+use Rattle.spl_flush.specs.Flushing.{is_to}
 
 module _ {X : Type 0} (p : X → Bool) (xs : List X) (d : X) where
   -- the first that passes
@@ -23,19 +23,13 @@ module _ {X : Type 0} (p : X → Bool) (xs : List X) (d : X) where
   position_none fails =
       let is = position_or_len_is p xs (length xs) d (omega arith) fails (λ below. absurd (omega arith)) in
       ap (λ (n : ℕ). cond {A = Option ℕ} (nat_lt n (length xs)) (Some n) None) is
-      ∙ ap (λ (b : Bool). cond {A = Option ℕ} b (Some (length xs)) None) (le-ltb (length xs) (length xs) (omega arith))
+      ∙ ap (λ (b : Bool). cond {A = Option ℕ} b (Some (length xs)) None)
+      (le-ltb (length xs) (length xs) (omega arith))
 
 -- the test of a pivot's child
 pub leads_here : (to : Option ℕ) (child : ℕ) → option_eq nat_eq to (Some child) ≡ is_to child to
 leads_here None child = refl
 leads_here (Some other) child = refl
-
--- the branches of the bundles below a number, from the first on
-pub names_from_first : (queue : Numbered) (number : ℕ)
-    → live_below queue queue.first number ≡ names_below queue number
-names_from_first queue number =
-    let none : queue.first - queue.first ≡ 0 = omega arith in
-    ap (λ (n : ℕ). joined (take (number - queue.first) (drop n queue.bundles))) none
 
 -- from a bundle on: its own, and then those behind it
 pub names_next : (queue : Numbered) (from number : ℕ) → queue.first ≤ from → from < number
@@ -44,9 +38,11 @@ pub names_next : (queue : Numbered) (from number : ℕ) → queue.first ≤ from
 names_next queue from number stands below made =
     let k = from - queue.first in
     let more : number - from ≡ suc (number - (from + 1)) = omega arith in
-    ap (λ (bundles : List Bundle). joined (take (number - from) bundles)) (drop_more queue.bundles k (unmarked []) (omega arith))
+    ap (λ (bundles : List Bundle). joined (take (number - from) bundles))
+    (drop_more queue.bundles k (unmarked []) (omega arith))
     ∙ ap (λ (n : ℕ). joined (take n (bundle_at queue from ∷ drop (k + 1) queue.bundles))) more
-    ∙ ap (λ (n : ℕ). (bundle_at queue from).branches ++ joined (take (number - (from + 1)) (drop n queue.bundles))) (omega arith)
+    ∙ ap (λ (n : ℕ). (bundle_at queue from).branches ++ joined
+    (take (number - (from + 1)) (drop n queue.bundles))) (omega arith)
 
 length-joined : (bundles : List Bundle)
     → All (λ (bundle : Bundle). length bundle.branches ≤ MAX_BRANCHES) bundles
@@ -61,7 +57,8 @@ length-joined (bundle ∷ bundles) all =
 length-back : (bundles : List Bundle) (k : ℕ) → length (joined (drop k bundles)) ≤ length (joined bundles)
 length-back bundles k =
     let whole = ap (λ (bs : List Bundle). length (joined bs)) (take-append-drop k bundles) in
-    let parts = ap length (joined-append (take k bundles) (drop k bundles)) ∙ length-append (joined (take k bundles)) (joined (drop k bundles)) in
+    let parts = ap length (joined-append (take k bundles) (drop k bundles))
+    ∙ length-append (joined (take k bundles)) (joined (drop k bundles)) in
     omega arith
 
 -- at most so many branches are live

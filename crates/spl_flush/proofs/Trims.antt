@@ -22,7 +22,8 @@ passed_empty : (least number : ℕ) (bundles : List Bundle) (k : ℕ)
     → (get_or bundles k (unmarked [])).branches ≡ []
 passed_empty least number [] k below from = absurd (omega arith)
 passed_empty least number (bundle ∷ bundles) zero below from =
-    choose (nat_lt number least || is_empty bundle) (first_from least (number + 1) bundles) number (λ n. number + 0 < n → bundle.branches ≡ [])
+    choose (nat_lt number least || is_empty bundle) (first_from least (number + 1) bundles) number
+    (λ n. number + 0 < n → bundle.branches ≡ [])
     (λ passed below. by (nat_lt number least) refl passed)
     (λ ends below. absurd (omega arith))
     below
@@ -34,7 +35,8 @@ passed_empty least number (bundle ∷ bundles) zero below from =
         let short = ltb-true (length bundle.branches) 1 (sym (ap (λ b. b || is_empty bundle) e) ∙ passed) in
         nil_from_length bundle.branches (omega arith)
 passed_empty least number (bundle ∷ bundles) (suc k) below from =
-    choose (nat_lt number least || is_empty bundle) (first_from least (number + 1) bundles) number (λ n. number + suc k < n → (get_or bundles k (unmarked [])).branches ≡ [])
+    choose (nat_lt number least || is_empty bundle) (first_from least (number + 1) bundles) number
+    (λ n. number + suc k < n → (get_or bundles k (unmarked [])).branches ≡ [])
     (λ passed below. passed_empty least (number + 1) bundles k (omega arith) (omega arith))
     (λ ends below. absurd (omega arith))
     below
@@ -50,23 +52,29 @@ not_below m n is = grind (arith, nat_tests)
 from_above : (least number : ℕ) (bundles : List Bundle) → number ≤ first_from least number bundles
 from_above least number [] = omega arith
 from_above least number (bundle ∷ bundles) =
-    choose (nat_lt number least || is_empty bundle) (first_from least (number + 1) bundles) number (λ n. number ≤ n)
+    choose (nat_lt number least || is_empty bundle) (first_from least (number + 1) bundles) number
+    (λ n. number ≤ n)
     (λ passed. let rest = from_above least (number + 1) bundles in omega arith)
     (λ ends. omega arith)
 
 -- the first bundle that is kept has branches
 first_full : (least number : ℕ) (bundles : List Bundle)
     → StartsFull (drop (first_from least number bundles - number) bundles)
-first_full least number [] = subst (λ (bundles : List Bundle). StartsFull bundles) (sym (drop_all (number - number) [] (omega arith))) tt
+first_full least number [] = subst (λ (bundles : List Bundle). StartsFull bundles)
+    (sym (drop_all (number - number) [] (omega arith))) tt
 first_full least number (bundle ∷ bundles) =
-    choose (nat_lt number least || is_empty bundle) (first_from least (number + 1) bundles) number (λ n. StartsFull (drop (n - number) (bundle ∷ bundles)))
+    choose (nat_lt number least || is_empty bundle) (first_from least (number + 1) bundles) number
+    (λ n. StartsFull (drop (n - number) (bundle ∷ bundles)))
     (λ passed.
     let above = from_above least (number + 1) bundles in
-    let one : first_from least (number + 1) bundles - number ≡ suc (first_from least (number + 1) bundles - (number + 1)) = omega arith in
-    subst (λ (n : ℕ). StartsFull (drop n (bundle ∷ bundles))) (sym one) (first_full least (number + 1) bundles))
+    let one : first_from least (number + 1) bundles - number ≡ suc
+    (first_from least (number + 1) bundles - (number + 1)) = omega arith in
+    subst (λ (n : ℕ). StartsFull (drop n (bundle ∷ bundles))) (sym one)
+    (first_full least (number + 1) bundles))
     (λ ends.
     let none : number - number ≡ 0 = omega arith in
-    let full : 0 < length bundle.branches = not_below (length bundle.branches) 1 (neither (nat_lt number least) (is_empty bundle) ends).1 in
+    let full : 0 < length bundle.branches = not_below (length bundle.branches) 1
+    (neither (nat_lt number least) (is_empty bundle) ends).1 in
     subst (λ (n : ℕ). StartsFull (drop n (bundle ∷ bundles))) (sym none) full)
 
 -- no bundle below the least mark is kept
@@ -74,7 +82,8 @@ least_passed : (least number : ℕ) (bundles : List Bundle) → least ≤ number
     → least ≤ first_from least number bundles
 least_passed least number [] upto = omega arith
 least_passed least number (bundle ∷ bundles) upto =
-    choose (nat_lt number least || is_empty bundle) (first_from least (number + 1) bundles) number (λ n. least ≤ n)
+    choose (nat_lt number least || is_empty bundle) (first_from least (number + 1) bundles) number
+    (λ n. least ≤ n)
     (λ passed. least_passed least (number + 1) bundles (omega arith))
     (λ ends. not_below number least (neither (nat_lt number least) (is_empty bundle) ends).0)
 
@@ -85,7 +94,8 @@ least_start start (pivot ∷ pivots) = let rest = least_start (min start pivot.m
 least_at : (start : ℕ) (pivots : List Pivot) (i : ℕ) (d : Pivot) → i < length pivots
     → fold (λ n pivot. min n pivot.mark) start pivots ≤ (get_or pivots i d).mark
 least_at start [] i d within = absurd (omega arith)
-least_at start (pivot ∷ pivots) zero d within = let rest = least_start (min start pivot.mark) pivots in omega arith
+least_at start (pivot ∷ pivots) zero d within = let rest = least_start
+    (min start pivot.mark) pivots in omega arith
 least_at start (pivot ∷ pivots) (suc i) d within = least_at (min start pivot.mark) pivots i d (omega arith)
 
 least_above : (bound start : ℕ) (pivots : List Pivot) → bound ≤ start
@@ -102,13 +112,17 @@ joined_skipped : (bundles : List Bundle) (n a count : ℕ) → a + n ≤ length 
     → joined (take (n + count) (drop a bundles)) ≡ joined (take count (drop (a + n) bundles))
 joined_skipped bundles zero a count within none =
     let same : 0 + count ≡ count = omega arith in
-    ap (λ (m : ℕ). joined (take m (drop a bundles))) same ∙ ap (λ (m : ℕ). joined (take count (drop m bundles))) (omega arith)
+    ap (λ (m : ℕ). joined (take m (drop a bundles))) same
+    ∙ ap (λ (m : ℕ). joined (take count (drop m bundles))) (omega arith)
 joined_skipped bundles (suc n) a count within none =
     let more : suc n + count ≡ suc (n + count) = omega arith in
-    ap (λ (list : List Bundle). joined (take (suc n + count) list)) (drop_more bundles a (unmarked []) (omega arith))
+    ap (λ (list : List Bundle). joined (take (suc n + count) list))
+    (drop_more bundles a (unmarked []) (omega arith))
     ∙ ap (λ (m : ℕ). joined (take m (get_or bundles a (unmarked []) ∷ drop (a + 1) bundles))) more
-    ∙ ap (λ (list : List ℕ). list ++ joined (take (n + count) (drop (a + 1) bundles))) (none a (omega arith) (omega arith))
-    ∙ joined_skipped bundles n (a + 1) count (omega arith) (λ k from below. none k (omega arith) (omega arith))
+    ∙ ap (λ (list : List ℕ). list ++ joined (take (n + count) (drop (a + 1) bundles)))
+    (none a (omega arith) (omega arith))
+    ∙ joined_skipped bundles n (a + 1) count (omega arith)
+    (λ k from below. none k (omega arith) (omega arith))
     ∙ ap (λ (m : ℕ). joined (take count (drop m bundles))) (omega arith)
 
 module _ (node : NodeData) where
@@ -126,7 +140,8 @@ module _ (node : NodeData) where
       → bundle_at (trimmed node).lists number ≡ bundle_at node.lists number
   bundle_trimmed number above =
       let least = kept_from-ge node in
-      get_or-drop (kept - node.lists.first) node.lists.bundles (number - max node.lists.first kept) (unmarked [])
+      get_or-drop (kept - node.lists.first) node.lists.bundles (number - max node.lists.first kept)
+      (unmarked [])
       ∙ ap (λ (n : ℕ). get_or node.lists.bundles n (unmarked [])) (omega arith)
 
   pub starts_full : StartsFull (trimmed node).lists.bundles
@@ -139,8 +154,11 @@ module _ (node : NodeData) where
         → (get_or node.lists.bundles k (unmarked [])).branches ≡ []
     run_empty k from below = elim (cases_lt (node.lists.first + k) (least_mark node)) [
       | inl lower ↦
-          let behind : All (λ (pivot : Pivot). last + 1 ≤ pivot.mark) node.pivots = λ i d within. elim (uncut i d within) [
-            | inl low ↦ absurd (let least = least_at (next_of node.lists) node.pivots i d within in omega arith)
+          let behind : All (λ (pivot : Pivot). last + 1 ≤ pivot.mark) node.pivots = λ i d within. elim
+          (uncut i d within) [
+            | inl low ↦
+                let least = least_at (next_of node.lists) node.pivots i d within in
+                absurd (omega arith)
             | inr high ↦ omega arith
           ] in
           let all = least_above (last + 1) (next_of node.lists) node.pivots (omega arith) behind in
@@ -160,15 +178,19 @@ module _ (node : NodeData) where
         let b = max first (max node.lists.first kept) in
         let left = last + 1 - b in
         let begin = a - node.lists.first in
-        ap (λ (list : List Bundle). joined (take left list)) (drop-drop (first - max node.lists.first kept) (kept - node.lists.first) bundles)
+        ap (λ (list : List Bundle). joined (take left list))
+        (drop-drop (first - max node.lists.first kept) (kept - node.lists.first) bundles)
         ∙ ap (λ (n : ℕ). joined (take left (drop n bundles))) (omega arith)
-        ∙ sym (joined_skipped bundles (b - a) begin left (omega arith) (λ k from below. run_empty k (omega arith) (omega arith)))
+        ∙ sym (joined_skipped bundles (b - a) begin left (omega arith)
+        (λ k from below. run_empty k (omega arith) (omega arith)))
         ∙ ap (λ (n : ℕ). joined (take n (drop begin bundles))) (omega arith)
         ∙ ap (λ (n : ℕ). joined (take (last + 1 - a) (drop n bundles))) (omega arith)
 
     uncut_trimmed : IsUncut (trimmed node) first last
     uncut_trimmed =
-        All-map (λ (pivot : Pivot). (pivot.mark ≤ max first (max node.lists.first kept)) ⊎ (last < pivot.mark)) (λ (pivot : Pivot). at_mark pivot (max pivot.mark kept)) node.pivots (λ i d within. elim (uncut i d within) [
+        All-map (λ (pivot : Pivot). (pivot.mark ≤ max first (max node.lists.first kept)) ⊎
+        (last < pivot.mark)) (λ (pivot : Pivot). at_mark pivot (max pivot.mark kept)) node.pivots
+        (λ i d within. elim (uncut i d within) [
           | inl low ↦ inl (omega arith)
           | inr high ↦ inr (omega arith)
         ])
@@ -181,7 +203,8 @@ module _ (node : NodeData) where
       record {
         stands = (omega (arith, holds.stands.0), let next = next_trimmed in omega (arith, holds.stands.1));
         marks = λ number above below stands.
-            ap (λ (bundle : Bundle). bundle.owner) (bundle_trimmed number (omega arith)) ∙ holds.marks number above below (omega arith);
+            ap (λ (bundle : Bundle). bundle.owner) (bundle_trimmed number (omega arith))
+            ∙ holds.marks number above below (omega arith);
         inputs = run_trimmed run.first run.last order holds.stands.1 some holds.whole ∙ holds.inputs;
         whole = uncut_trimmed run.first run.last order holds.stands.1 some holds.whole;
         within = holds.within;

@@ -33,36 +33,42 @@ module _ {B : Type 0} where
   -- the child takes a list of so many branches, or else why not
   abbrev pub where_taken : NodeData → ℕ → Reply B
   where_taken child branches =
-      if nat_lt (length child.lists.bundles) MAX_LISTS then (if nat_lt MAX_BRANCHES branches then NeedsCompact branches else Done)
+      if nat_lt (length child.lists.bundles) MAX_LISTS then
+      (if nat_lt MAX_BRANCHES branches then NeedsCompact branches else Done)
       else NeedsRoom
 
   abbrev pub where_led : Whole → ℕ → ℕ → Option ℕ → Reply B
   where_led whole parent child None = Moved child
-  where_led whole parent child (Some pivot) = where_taken (node_at whole.nodes child) (length (live_at (node_at whole.nodes parent) pivot))
+  where_led whole parent child (Some pivot) =
+      where_taken (node_at whole.nodes child) (length (live_at (node_at whole.nodes parent) pivot))
 
-  -- an actor that does not write both is unfit; then the parent has to lead to the child, and the child to take the list
+  -- an actor that does not write both is unfit; then the parent has to lead to the child, and the child to take
+  -- the list
   abbrev pub flush_answer : Whole → ℕ → ℕ → ℕ → Reply B
   flush_answer whole actor parent child =
-      if writes whole actor parent && writes whole actor child then where_led whole parent child (pivot_to (node_at whole.nodes parent).pivots child)
+      if writes whole actor parent && writes whole actor child then
+      where_led whole parent child (pivot_to (node_at whole.nodes parent).pivots child)
       else Unfit (state_of whole actor)
 
 -- the branches of the bundles below a number
 abbrev pub names_below : Numbered → ℕ → List ℕ
 names_below queue number = joined (take (number - queue.first) queue.bundles)
 
--- the branches of the bundles that are live for no pivot once nothing is live for this one, as often as they name them
+-- the branches of the bundles that are dropped once nothing is live for this pivot, as often as they name them
 abbrev pub dead_names : NodeData → ℕ → List ℕ
 dead_names node pivot = names_below node.lists (kept_from (with_mark node pivot (next_of node.lists)))
 
--- what is live in the parent for the pivot is the child's newest bundle, unless it is nothing, and is not live there any more
+-- what is live in the parent for the pivot is the child's newest bundle, unless it is nothing, and is no longer
+-- live in the parent for the pivot
 abbrev pub flushed : List NodeData → ℕ → ℕ → ℕ → List NodeData
 flushed nodes parent pivot child =
-    with_node (with_node nodes child (received (node_at nodes child) (live_at (node_at nodes parent) pivot))) parent (passed (node_at nodes parent) pivot)
+    with_node (with_node nodes child (received (node_at nodes child) (live_at (node_at nodes parent) pivot)))
+    parent (passed (node_at nodes parent) pivot)
 
 pub record IsFlushed (old new : Whole) (parent pivot child : ℕ) : Type 0 where
   pub nodes : new.nodes ≡ flushed old.nodes parent pivot child
-  -- each branch is named once more by the child, and once less where the parent's bundle is gone; what is still named
-  -- is the branch that it was
+  -- each branch is named as often more as it was live, and as often less as the parent's dropped bundles named it;
+  -- what is still named is the branch that it was
   pub names : (number : ℕ) → counts new number + times number (dead_names (node_at old.nodes parent) pivot)
       ≡ counts old number + times number (live_at (node_at old.nodes parent) pivot)
   pub still : (number : ℕ) → 0 < counts new number → branches new number ≡ branches old number
@@ -75,7 +81,7 @@ pub record IsFlushed (old new : Whole) (parent pivot child : ℕ) : Type 0 where
   pub actors : new.actors ≡ old.actors
   pub counters : new.counters ≡ old.counters
 
--- no branch is named so often that a count of a few more would not fit; a step names a branch at most a thousand times
--- more, and there are fewer than 2 ^ 46 steps
+-- No branch is named so often that its count could overflow. It holds of every state that is reached: a step
+-- names a branch at most 1,024 times more, and there are at most 2 ^ 46 steps.
 abbrev pub AreFew : Whole → Type 0
 AreFew whole = (number : ℕ) → counts whole number < 2 ^ 62

@@ -1,4 +1,4 @@
-//! What bundles name: the branches that a new bundle names are counted, and those of bundles that go are let go.
+//! The branches that bundles name: those of a new bundle are counted, and those of dropped bundles let go.
 ghost use Rattle.std.specs.Prelude.{◌≡◌, ℕ, ◌+◌, ◌<◌, ◌≤◌, ◌^◌, List, ◌++◌, IsSome, length};
 ghost use Rattle.spl_bundle.specs.declared.bundles.TheConstants.{MAX_BRANCHES};
 ghost use Rattle.spl_bundle.specs.Numbered.{next_of};

@@ -30,10 +30,11 @@ use spl_refs::Refs;
 use spl_state::{Parts, Reply};
 use spl_trunk::Trunk;
 
-/// Makes what is live in the parent for the child the child's newest bundle, unless it is nothing, and drops the
-/// parent's bundles that are live for no child any more. Branches that nothing names any more give their extents back.
+/// Makes what is live in the parent for the child the child's newest bundle, unless it is nothing, and drops
+/// the parent's bundles that are live for no child any more. Branches that nothing names any more give their
+/// extents back.
 ///
-/// Nobody writes a node that is not there, so an actor that names one is unfit.
+/// Nobody writes a node that does not exist, so an actor that names one is unfit.
 pub fn flush<B: Content>(parts: &mut Parts<B>, actor: u32, parent: u32, child: u32) -> Reply<B>
     requires known { actor < ACTORS }
     requires fresh { AreBelow parts.old.nodes parts.old.tables parts.old.counters }
@@ -152,7 +153,8 @@ fn joined(lists: &Bundles, mark: u64) -> ArrayVec<u64, MAX_BRANCHES>
 fn pass<B: Content>(trunk: &mut Trunk, refs: &mut Refs<B>, pool: &mut Pool, node: u32, pivot: u32)
     requires exists { node < length trunk.old }
     requires within { pivot < length (node_at trunk.old node).pivots }
-    requires mark { (pivot_at (node_at trunk.old node).pivots pivot).mark ≤ next_of (node_at trunk.old node).lists }
+    requires mark { (pivot_at (node_at trunk.old node).pivots pivot).mark
+        ≤ next_of (node_at trunk.old node).lists }
     requires accounted { (rest : List ℕ)
         × AreAccounted B.extents (dead_names (node_at trunk.old node) pivot ++ rest) refs.old pool.old }
     ensures nodes { trunk.new ≡ with_node trunk.old node (passed (node_at trunk.old node) pivot) }

@@ -9,7 +9,8 @@ unwrap-requires c =
     let queue = c.args.lists.now in
     let number = c.loop-number.number in
     let from = c.max-from.result in
-    let more = ap length (live_more queue c.args.mark from number (omega arith) (omega arith) (omega arith)) ∙ length-append (live_below queue from number) (bundle_at queue number).branches in
+    let more = ap length (live_more queue c.args.mark from number (omega arith) (omega arith) (omega arith))
+    ∙ length-append (live_below queue from number) (bundle_at queue number).branches in
     let short = length-live_below queue c.args.mark from (number + 1) (omega arith) (omega arith) in
     let list = ap length c.list.ensures in
     let before = ap length c.loop-number.invariant in

@@ -14,8 +14,11 @@ returns-clause-nodes g c =
     let next : c.next-next.result ≡ next_of (node_at nodes n).lists = search rules in
     let first : c.set_mark.new.self ≡ set nodes n (marked (next_of (node_at nodes n).lists)) =
     c.set_mark.ensures.value ∙ ap (λ (mark : ℕ). set nodes n (marked mark)) next in
-    let here = get_or-set_same nodes n (marked (next_of (node_at nodes n).lists)) (fresh 0 bare) c.requires.exists in
+    let here = get_or-set_same nodes n (marked (next_of (node_at nodes n).lists))
+    (fresh 0 bare) c.requires.exists in
     c.trim.ensures.value
     ∙ ap (λ (ns : List NodeData). set ns n (trimmed (node_at ns n))) first
-    ∙ ap (λ (node : NodeData). set (set nodes n (marked (next_of (node_at nodes n).lists))) n (trimmed node)) here
-    ∙ set-set nodes n (marked (next_of (node_at nodes n).lists)) (trimmed (marked (next_of (node_at nodes n).lists)))
+    ∙ ap (λ (node : NodeData). set (set nodes n (marked (next_of (node_at nodes n).lists))) n
+    (trimmed node)) here
+    ∙ set-set nodes n (marked (next_of (node_at nodes n).lists))
+    (trimmed (marked (next_of (node_at nodes n).lists)))

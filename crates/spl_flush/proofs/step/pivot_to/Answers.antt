@@ -13,11 +13,17 @@ returns-then-eq c =
     let i = c.loop-pivot.pivot in
     let within : i < length pivots = let same = ap length c.pivots-pivots.ensures.value in omega arith in
     let this : slice_index_or c.pivots-pivots.result.now i c.index-pivots-pivot.result ≡ pivot_at pivots i =
-    ap (λ (ps : List Pivot). slice_index_or ps i c.index-pivots-pivot.result) c.pivots-pivots.ensures.value ∙ get_or_default pivots i c.index-pivots-pivot.result bare within in
+    ap (λ (ps : List Pivot). slice_index_or ps i c.index-pivots-pivot.result) c.pivots-pivots.ensures.value
+    ∙ get_or_default pivots i c.index-pivots-pivot.result bare within in
     let to : is_to c.args.child (pivot_at pivots i).child ≡ true =
-    sym (leads_here (pivot_at pivots i).child c.args.child) ∙ ap (λ (p : Pivot). option_eq nat_eq p.child (Some c.args.child)) (sym this) ∙ sym c.eq.ensures ∙ c.if-eq.true in
-    sym (position_found (λ (pivot : Pivot). is_to c.args.child pivot.child) pivots bare i within c.loop-pivot.invariant to)
+    sym (leads_here (pivot_at pivots i).child c.args.child)
+    ∙ ap (λ (p : Pivot). option_eq nat_eq p.child (Some c.args.child)) (sym this) ∙ sym c.eq.ensures
+    ∙ c.if-eq.true in
+    sym (position_found (λ (pivot : Pivot). is_to c.args.child pivot.child) pivots bare i within
+    c.loop-pivot.invariant to)
 
 pub returns : goal.returns
 returns c =
-    sym (position_none (λ (pivot : Pivot). is_to c.args.child pivot.child) c.args.node.now.pivots bare (λ k within. c.loop-pivot.invariant k (let same = ap length c.pivots-pivots.ensures.value in omega arith)))
+    sym (position_none (λ (pivot : Pivot). is_to c.args.child pivot.child) c.args.node.now.pivots bare
+    (λ k within. c.loop-pivot.invariant k (let same = ap length c.pivots-pivots.ensures.value in omega
+    arith)))
