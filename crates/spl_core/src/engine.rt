@@ -5,7 +5,7 @@ ghost use Rattle.spl_message.specs.History.{History};
 ghost use Rattle.spl_message.specs.Rule.{Rule};
 ghost use Rattle.spl_state.specs.Frame.{refused};
 ghost use Rattle.spl_state.specs.Sight.{KeepsSight};
-ghost use Rattle.spl_state.specs.Sound.{AreDrafts, IsEmpty};
+ghost use Rattle.spl_state.specs.Sound.{AreDrafts, IsEmpty, IsSound};
 ghost use Rattle.spl_state.specs.View.{branch_data};
 ghost use Rattle.spl_core.specs.Standing.{StandsFor, Knows, called};
 ghost use Rattle.spl_core.specs.Steps.{IsStep};
@@ -48,7 +48,8 @@ impl<B: Content, L: MergeLaw> Core<B, L> {
 
     /// How many steps were made, refused ones too.
     pub fn steps(&self) -> u64
-        ensures { result ≡ self.now.parts.counters.steps }
+        ensures value { result ≡ self.now.parts.counters.steps }
+        ensures sound { IsSound self.now.parts }
     {
         self.parts.counters.steps
     }
