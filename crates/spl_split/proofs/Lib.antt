@@ -1,0 +1,4 @@
+pub mod Results
+pub mod Heirs
+pub mod Grows
+pub mod Raises
