@@ -5,6 +5,9 @@
 //! follows takes no memory.
 #![tactic(auto)]
 
+mod halves;
+mod names;
 mod root;
 
+pub use halves::split;
 pub use root::raise;
