@@ -1,0 +1,9 @@
+pub mod Results
+pub mod Naming
+pub mod Heirs
+pub mod Grows
+pub mod Raises
+pub mod Division
+pub mod Splits
+pub mod Points
+pub mod Seen
