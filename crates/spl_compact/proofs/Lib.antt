@@ -1,0 +1,6 @@
+pub mod Lists
+pub mod Marked
+pub mod Inputs
+pub mod OneNode
+pub mod Starts
+pub mod Held
