@@ -1,12 +1,10 @@
 -- The branches of a run stand, and are few.
-use Rattle.std.proofs.Common.{◌≡◌, ℕ, zero, suc, ◌+◌, ◌-◌, ◌*◌, ◌<◌, ◌≤◌, max, List, [], ◌∷◌, ◌++◌, Option, length, take, drop, get_or, flat_map, refl, sym, ap, subst, ◌∙◌, arith, length-append, take-append-drop}
+use Rattle.std.proofs.Common.{ℕ, zero, suc, ◌-◌, ◌*◌, ◌<◌, ◌≤◌, max, List, [], ◌∷◌, Option, length, take, drop, get_or, flat_map, ap, subst, arith, length-append, take-append-drop}
 use Rattle.std.specs.Prelude.{All, IsSome}
 use Rattle.std.proofs.lemmas.List.Elements.{All-get_or, All-from_get_or}
-use Rattle.spl_bundle.specs.Numbered.{Numbered, Bundle, unmarked, joined, names, IsWithinLimits}
+use Rattle.spl_bundle.specs.Numbered.{Numbered, Bundle, joined, names, IsWithinLimits}
 use Rattle.spl_bundle.proofs.Live.{joined-append, length-joined_front}
-use Rattle.spl_node.specs.Node.{NodeData, bare}
 use Rattle.spl_node.specs.Parts.{branches_from}
-use Rattle.spl_node.specs.Steps.{fresh}
 use Rattle.spl_refs.specs.Refs.{Published, branch_at}
 use Rattle.spl_trunk.specs.Trunk.{node_at}
 use Rattle.spl_trunk.specs.Tree.{times, named}

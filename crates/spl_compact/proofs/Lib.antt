@@ -3,4 +3,5 @@ pub mod Marked
 pub mod Inputs
 pub mod OneNode
 pub mod Starts
+pub mod Begins
 pub mod Held

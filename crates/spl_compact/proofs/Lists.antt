@@ -1,8 +1,8 @@
 -- The bundles of a run one after another.
-use Rattle.std.proofs.Common.{◌≡◌, ℕ, suc, ◌+◌, ◌-◌, ◌<◌, ◌≤◌, max, List, [], ◌∷◌, ◌++◌, Option, None, Some, take, drop, refl, sym, ap, ◌∙◌, arith}
+use Rattle.std.proofs.Common.{◌≡◌, ℕ, suc, ◌+◌, ◌-◌, ◌<◌, ◌≤◌, max, [], ◌∷◌, ◌++◌, take, drop, ap, ◌∙◌, arith}
 use Rattle.std.specs.Option.{option_or}
 use Rattle.std.proofs.lemmas.List.{drop_more}
-use Rattle.spl_bundle.specs.Numbered.{Numbered, Bundle, unmarked, bundle_at, next_of, joined}
+use Rattle.spl_bundle.specs.Numbered.{Numbered, unmarked, bundle_at, next_of, joined}
 use Rattle.spl_node.specs.Parts.{branches_from}
 use Rattle.spl_compact.specs.Starting.{run_below, first_owner}
 

@@ -1,9 +1,9 @@
 -- The begin of a merge keeps the invariant, and what everybody relies on.
-use Rattle.std.proofs.Common.{◌≡◌, ◌≢◌, ℕ, zero, suc, ◌+◌, ◌-◌, ◌<◌, ◌≤◌, max, Bool, true, false, cond, nat_lt, List, [], ◌∷◌, ◌++◌, Option, Some, None, map, flat_map, length, take, drop, get_or, set, slice_get, refl, sym, ap, subst, ◌∙◌, inl, inr, arith}
-use Rattle.std.specs.Prelude.{All, IsSome, IfSome, ◌↔◌, ◌&&◌, ◌||◌, ◌⊎◌, not, nat_eq, find}
+use Rattle.std.proofs.Common.{◌≡◌, ◌≢◌, ℕ, zero, suc, ◌+◌, ◌-◌, ◌<◌, ◌≤◌, max, Bool, true, false, cond, nat_lt, List, [], ◌∷◌, Option, Some, None, map, flat_map, length, drop, get_or, refl, sym, ap, subst, ◌∙◌, inl, inr, arith}
+use Rattle.std.specs.Prelude.{All, IsSome, IfSome, ◌↔◌, ◌&&◌, ◌⊎◌, not, nat_eq, find}
 use Rattle.std.specs.Option.{option_or}
-use Rattle.std.proofs.lemmas.Bool.{cases_eq, cases_lt, false≢true, eqb-true, lt-ltb}
-use Rattle.std.proofs.lemmas.List.{length-set, get_or-take, get_or-drop, length-take-le, length-drop}
+use Rattle.std.proofs.lemmas.Bool.{cases_eq, cases_lt, false≢true, eqb-true}
+use Rattle.std.proofs.lemmas.List.{length-set, get_or-take, get_or-drop}
 use Rattle.std.proofs.lemmas.List.Elements.{All-set, All-get_or, All-from_get_or}
 use Rattle.std.proofs.lemmas.Option.{same_Some}
 use Rattle.spl_base.specs.declared.TheConstants.{ACTORS}
@@ -13,17 +13,17 @@ use Rattle.spl_message.specs.Rule.{Rule}
 use Rattle.spl_message.specs.Table.{Table, chain, part_of, IsMerged}
 use Rattle.spl_message.specs.declared.span.Span.{Span}
 use Rattle.spl_numbers.specs.Numbers.{has, ListsEach}
-use Rattle.spl_bundle.specs.Numbered.{Numbered, Bundle, unmarked, bundle_at, next_of, live, names, marked}
+use Rattle.spl_bundle.specs.Numbered.{Numbered, Bundle, unmarked, bundle_at, next_of, live, marked}
 use Rattle.spl_bundle.proofs.Changes.{live-marked, names-marked}
 use Rattle.spl_node.specs.declared.pivot.Pivot.{Pivot}
 use Rattle.spl_node.specs.Node.{NodeData, bare, pivot_at}
-use Rattle.spl_node.specs.Parts.{branches_from, IsUncut}
+use Rattle.spl_node.specs.Parts.{branches_from}
 use Rattle.spl_node.specs.Steps.{fresh, with_lists}
 use Rattle.spl_refs.specs.Refs.{Published, branch_at, count_at}
 use Rattle.spl_trunk.specs.Trunk.{node_at}
 use Rattle.spl_trunk.specs.Tree.{sub, times, named, IsShaped, pivot_of, child_for, live_tables}
 use Rattle.spl_trunk.proofs.Counts.{times-append}
-use Rattle.spl_tables.specs.Memtables.{FrozenData, tables_of}
+use Rattle.spl_tables.specs.Memtables.{tables_of}
 use Rattle.spl_state.specs.declared.actor.Actor.{Actor}
 use Rattle.spl_state.specs.declared.descent.Descent.{Descent}
 use Rattle.spl_state.specs.declared.job.Job.{Job}
@@ -32,18 +32,18 @@ use Rattle.spl_state.specs.declared.job.Run.{Run}
 use Rattle.spl_state.specs.Actor.{actor_in, with_job, told_of}
 use Rattle.spl_state.specs.Actors.{IsActor, IsOnWay, IsAtWork, IsOf, LiesUnder, JobsDiffer, Packs, ArePicked, HasTable, pivot_from}
 use Rattle.spl_state.specs.Bounds.{AreBelow, AreBounded, HasEnds, HasAllEnds}
-use Rattle.spl_state.specs.Extents.{number_of, named_by, inputs_of, mentioned, held_by, AccountsForExtents}
+use Rattle.spl_state.specs.Extents.{number_of, named_by, mentioned, held_by, AccountsForExtents}
 use Rattle.spl_state.specs.Frame.{IsFramed}
 use Rattle.spl_state.specs.Runs.{Stands, HoldsRun, IsInRun, AreInRuns}
-use Rattle.spl_state.specs.Sight.{KeepsNode, SeesNode, SeesSource, split_key, split_key_at, tables_under}
-use Rattle.spl_state.specs.Sound.{IsSound, AreDrafts, meaning}
+use Rattle.spl_state.specs.Sight.{KeepsNode, SeesNode, SeesSource, split_key, split_key_at}
+use Rattle.spl_state.specs.Sound.{IsSound, AreDrafts}
 use Rattle.spl_state.specs.Whole.{BranchData, Whole, branches, counts, table_in, table_or}
 use Rattle.spl_state.proofs.Named.{node_named, same_map, same_split}
 use Rattle.spl_state.proofs.Replaced.{each_actor, job_of, other_actor, this_actor, times-actor, working}
 use Rattle.spl_compact.specs.Starting.{Starts, is_busy, is_bottom, crosses, first_owner, run_below, run_at, started_with}
 use Rattle.spl_compact.proofs.Inputs.{times_run}
 use Rattle.spl_compact.proofs.Marked.{lists-marked, next-marked, branches-marked, bundle_inside, bundle_before, bundle_behind, same_length, starts_full, all_alike, split_alike}
-use Rattle.spl_compact.proofs.OneNode.{replaced, long, this_node, other_node, each_node, same_part, named_now}
+use Rattle.spl_compact.proofs.OneNode.{long, each_node, same_part, named_now}
 
 pub no_descent : (a : Actor) → is_busy a ≡ false → a.descent ≡ None
 no_descent a none = by a.descent a.job none

@@ -70,7 +70,9 @@ pub fn start<B: Content>(
             hold_all(&mut parts.refs, run.inputs.as_slice());
             parts.trunk.set_ticket(node, first, last, Some(actor));
             parts.counters.branches += 1;
-            parts.actors.set_job(actor, Some(Job::Merge { number, run }));
+            parts
+                .actors
+                .set_job(actor, Some(Job::Merge { number, run }));
             parts.actors.tell(actor, node);
             Reply::Ticket(ticket)
         }

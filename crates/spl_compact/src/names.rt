@@ -15,7 +15,12 @@ use std::alloc::Global;
 use std::sync::Arc;
 
 /// The numbers of the branches of the bundles from `first` on and below `end`, oldest first.
-pub(crate) fn numbers_of(alloc: Global, lists: &Bundles, first: u64, end: u64) -> Result<Vec<u64>, NoMemory>
+pub(crate) fn numbers_of(
+    alloc: Global,
+    lists: &Bundles,
+    first: u64,
+    end: u64,
+) -> Result<Vec<u64>, NoMemory>
     requires stands { lists.now.first ≤ first }
     requires made { end ≤ next_of lists.now }
     ensures { IfOk result (λ numbers. numbers.items ≡ branches_from lists.now first end) }
@@ -28,7 +33,11 @@ pub(crate) fn numbers_of(alloc: Global, lists: &Bundles, first: u64, end: u64) -
 }
 
 /// The branches of these numbers, shared.
-pub(crate) fn share<B: Content>(alloc: Global, refs: &Refs<B>, numbers: &[u64]) -> Result<Branches<B>, NoMemory>
+pub(crate) fn share<B: Content>(
+    alloc: Global,
+    refs: &Refs<B>,
+    numbers: &[u64],
+) -> Result<Branches<B>, NoMemory>
     requires { All (λ number. IsSome (branch_at refs.now number)) numbers.now }
     ensures { IfOk result (HasBranches B.number (branch_at refs.now) numbers.now) }
 {

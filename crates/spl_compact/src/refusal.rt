@@ -38,7 +38,10 @@ fn all_stand(lists: &Bundles, first: u64, last: u64) -> bool
 fn first_crossing(pivots: &[Pivot], first: u64, last: u64) -> Option<Pivot>
     ensures { result ≡ find (crosses first last) pivots.now }
 {
-    pivots.iter().copied().find(|pivot| first < pivot.mark && pivot.mark <= last)
+    pivots
+        .iter()
+        .copied()
+        .find(|pivot| first < pivot.mark && pivot.mark <= last)
 }
 
 /// The actor of the first mark on the bundles from `first` on and below `end`.

@@ -1,4 +1,4 @@
-use Rattle.std.proofs.Common.{◌≡◌, ℕ, ◌+◌, ◌++◌, List, sym, ap, ◌∙◌, arith, append_assoc}
+use Rattle.std.proofs.Common.{ℕ, ◌+◌, ◌++◌, List, sym, ap, ◌∙◌, arith, append_assoc}
 use Rattle.spl_bundle.specs.Numbered.{bundle_at}
 use Rattle.spl_node.specs.Parts.{branches_from}
 use Rattle.spl_compact.proofs.Lists.{branches_first}

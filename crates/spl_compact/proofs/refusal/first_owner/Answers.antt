@@ -1,9 +1,8 @@
-use Rattle.std.proofs.Common.{◌≡◌, ℕ, ◌+◌, Option, Some, None, sym, ap, ◌∙◌, arith}
+use Rattle.std.proofs.Common.{◌≡◌, ℕ, ◌+◌, Option, None, sym, ap, ◌∙◌, arith}
 use Rattle.std.specs.Option.{option_or}
 use Rattle.spl_bundle.specs.Numbered.{bundle_at}
 use Rattle.spl_compact.specs.Starting.{run_below, first_owner}
 use Rattle.spl_compact.proofs.Lists.{owner_first}
-use Rattle.spl_compact.proofs.Marked.{bundle_inside}
 use Rattle.spl_compact.proofs.refusal.first_owner.Goals as goal
 
 pub returns-in-Some : goal.returns-in-Some
