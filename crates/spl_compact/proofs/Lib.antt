@@ -1,0 +1,10 @@
+pub mod Lists
+pub mod Marked
+pub mod Inputs
+pub mod OneNode
+pub mod Starts
+pub mod Begins
+pub mod MergedRun
+pub mod Accounting
+pub mod Positions
+pub mod Held
