@@ -16,13 +16,20 @@ pub record Inherits (was now : NodeData) : Type 0 where
   pub uncut : (first last : ℕ) → IsUncut was first last → IsUncut now first last
 
 pub inherits_itself : (node : NodeData) → Inherits node node
-inherits_itself node = record { lists = refl; height = refl; within = λ key inside. inside; uncut = λ first last uncut. uncut }
+inherits_itself node = record {
+  lists = refl;
+  height = refl;
+  within = λ key inside. inside;
+  uncut = λ first
+      last uncut. uncut;
+}
 
 module _ (was now : NodeData) (inherits : Inherits was now) where
   pub holds_still : (who : ℕ) (run : Run) → HoldsRun was who run → HoldsRun now who run
   holds_still who run holds = record {
     stands = subst (λ (q : Numbered). Stands q run.last) (sym inherits.lists) holds.stands;
-    marks = subst (λ (q : Numbered). (number : ℕ) → run.first ≤ number → number ≤ run.last → q.first ≤ number → (bundle_at q number).owner ≡ Some who) (sym inherits.lists) holds.marks;
+    marks = subst (λ (q : Numbered). (number : ℕ) → run.first ≤ number → number ≤ run.last → q.first ≤ number
+        → (bundle_at q number).owner ≡ Some who) (sym inherits.lists) holds.marks;
     inputs = ap (λ (q : Numbered). branches_from q run.first (run.last + 1)) inherits.lists ∙ holds.inputs;
     whole = inherits.uncut run.first run.last holds.whole;
     within = λ key inside. holds.within key (inherits.within key inside);
@@ -30,7 +37,8 @@ module _ (was now : NodeData) (inherits : Inherits was now) where
     oldest = λ is. subst (λ (q : Numbered). run.first ≤ q.first) (sym inherits.lists) (holds.oldest is);
   }
 
-  pub in_run_still : (bundle who : ℕ) (job : Option Job) → IsInRun was bundle who job → IsInRun now bundle who job
+  pub in_run_still : (bundle who : ℕ) (job : Option Job) → IsInRun was bundle who job
+      → IsInRun now bundle who job
   in_run_still bundle who None is = is
   in_run_still bundle who (Some (Pack n table)) is = is
   in_run_still bundle who (Some (Merge n run)) is = (is.0, is.1, holds_still who run is.2)

@@ -23,7 +23,8 @@ times-take n k xs =
     omega arith
 
 -- and one time less where the next one is that number
-times-next : (n k : ℕ) (xs : List ℕ) → k < length xs → get_or xs k n ≡ n → times n (take k xs) + 1 ≤ times n xs
+times-next : (n k : ℕ) (xs : List ℕ) → k < length xs → get_or xs k n ≡ n
+    → times n (take k xs) + 1 ≤ times n xs
 times-next n k xs within is =
     let upto = times-take n (k + 1) xs in
     let more = ap (times n) (take_more xs k n within) ∙ times-append n (take k xs) (get_or xs k n ∷ []) in
@@ -42,7 +43,9 @@ times_short n (x ∷ xs) =
     at_most true = omega arith
     at_most false = omega arith
 
-length-joined_within : (bundles : List Bundle) → All (λ (bundle : Bundle). length bundle.branches ≤ 32) bundles → length (joined bundles) ≤ 32 * length bundles
+length-joined_within : (bundles : List Bundle)
+    → All (λ (bundle : Bundle). length bundle.branches ≤ 32) bundles
+    → length (joined bundles) ≤ 32 * length bundles
 length-joined_within [] all = omega arith
 length-joined_within (bundle ∷ bundles) all =
     let first : length bundle.branches ≤ 32 = all 0 bundle (omega arith) in
@@ -59,19 +62,24 @@ module _ (queue : Numbered) where
   front_none = live_none queue queue.first
 
   front_all : (number : ℕ) → next_of queue ≤ number → front number ≡ names queue
-  front_all number past = live_all queue 0 queue.first number (omega arith) (omega arith) past ∙ ap (λ (k : ℕ). joined (drop k queue.bundles)) (let none : 0 - queue.first ≡ 0 = omega arith in none)
+  front_all number past = live_all queue 0 queue.first number (omega arith) (omega arith) past
+      ∙ ap (λ (k : ℕ). joined (drop k queue.bundles)) (let none : 0 - queue.first ≡ 0 = omega arith in none)
 
-  front_more : (number : ℕ) → queue.first ≤ number → number < next_of queue → front (number + 1) ≡ front number ++ (bundle_at queue number).branches
+  front_more : (number : ℕ) → queue.first ≤ number → number < next_of queue
+      → front (number + 1) ≡ front number ++ (bundle_at queue number).branches
   front_more number above below = live_more queue 0 queue.first number (omega arith) above below
 
   times-front : (n number : ℕ) → times n (front number) ≤ times n (names queue)
   times-front n number =
       let none : queue.first - queue.first ≡ 0 = omega arith in
       let k = number - queue.first in
-      let is : front number ≡ joined (take k queue.bundles) = ap (λ (m : ℕ). joined (take k (drop m queue.bundles))) none in
+      let is : front number ≡ joined (take k queue.bundles) = ap
+      (λ (m : ℕ). joined (take k (drop m queue.bundles))) none in
       let here = ap (times n) is in
-      let parts = ap (λ (bundles : List Bundle). times n (joined bundles)) (take-append-drop k queue.bundles) in
-      let joins = ap (times n) (joined-append (take k queue.bundles) (drop k queue.bundles)) ∙ times-append n (joined (take k queue.bundles)) (joined (drop k queue.bundles)) in
+      let parts = ap (λ (bundles : List Bundle). times n (joined bundles))
+      (take-append-drop k queue.bundles) in
+      let joins = ap (times n) (joined-append (take k queue.bundles) (drop k queue.bundles))
+      ∙ times-append n (joined (take k queue.bundles)) (joined (drop k queue.bundles)) in
       omega arith
 
   module _ (number : ℕ) (above : queue.first ≤ number) (below : number < next_of queue) where
@@ -93,7 +101,8 @@ module _ {B : Type 0} where
   named_none refs = record { counts = λ n. omega arith; branches = λ n. refl }
 
   -- the number at a place of the list, where the numbers before it were named once more
-  module _ (old mid : Published B) (list : List ℕ) (k : ℕ) (within : k < length list) (named : NamedMore old mid (take k list)) where
+  module _ (old mid : Published B) (list : List ℕ) (k : ℕ) (within : k < length list)
+      (named : NamedMore old mid (take k list)) where
     abbrev x : ℕ
     x = get_or list k 0
 
@@ -101,7 +110,8 @@ module _ {B : Type 0} where
     stands_there = let one = times-next x k list within (get_or_default list k x 0 within) in omega arith
 
     pub next_held : AreNamed old list → IsSome (held_at mid x)
-    next_held stand = some_held (held_at mid x) (subst (λ (o : Option B). IsSome o) (sym (named.branches x)) (stand x stands_there))
+    next_held stand = some_held (held_at mid x) (subst (λ (o : Option B). IsSome o) (sym (named.branches x))
+        (stand x stands_there))
 
     pub next_few : HaveRoom old list → count_at mid x < 2 ^ 63
     next_few room =
@@ -110,7 +120,8 @@ module _ {B : Type 0} where
         let so_far = named.counts x in
         omega arith
 
-    pub named_next : (new : Published B) → CountsAt mid new x (count_at mid x + 1) → ((n : ℕ) → branch_at new n ≡ branch_at mid n) → NamedMore old new (take (k + 1) list)
+    pub named_next : (new : Published B) → CountsAt mid new x (count_at mid x + 1)
+        → ((n : ℕ) → branch_at new n ≡ branch_at mid n) → NamedMore old new (take (k + 1) list)
     named_next new counts branches = record {
       counts = λ n.
           let more = ap (times n) (take_more list k 0 within) ∙ times-append n (take k list) (x ∷ []) in
@@ -129,10 +140,13 @@ module _ {B : Type 0} where
       branches = λ n. branches n ∙ named.branches n;
     }
 
-  pub named_all : (old new : Published B) (list : List ℕ) (k : ℕ) → length list ≤ k → NamedMore old new (take k list) → NamedMore old new list
-  named_all old new list k past named = subst (λ (xs : List ℕ). NamedMore old new xs) (take_all k list past) named
+  pub named_all : (old new : Published B) (list : List ℕ) (k : ℕ) → length list ≤ k
+      → NamedMore old new (take k list) → NamedMore old new list
+  named_all old new list k past named = subst (λ (xs : List ℕ). NamedMore old new xs)
+      (take_all k list past) named
 
-  pub few_next : (refs : Published B) (list : List ℕ) (k : ℕ) → k < length list → count_at refs (get_or list k 0) < 2 ^ 62 → AreFew refs (take k list) → AreFew refs (take (k + 1) list)
+  pub few_next : (refs : Published B) (list : List ℕ) (k : ℕ) → k < length list
+      → count_at refs (get_or list k 0) < 2 ^ 62 → AreFew refs (take k list) → AreFew refs (take (k + 1) list)
   few_next refs list k within few all n some =
       let x = get_or list k 0 in
       let more = ap (times n) (take_more list k 0 within) ∙ times-append n (take k list) (x ∷ []) in
@@ -144,45 +158,58 @@ module _ {B : Type 0} where
   pub few_none : (refs : Published B) → AreFew refs []
   few_none refs n some = absurd (omega arith)
 
-  pub few_all : (refs : Published B) (list : List ℕ) (k : ℕ) → length list ≤ k → AreFew refs (take k list) → AreFew refs list
+  pub few_all : (refs : Published B) (list : List ℕ) (k : ℕ) → length list ≤ k → AreFew refs (take k list)
+      → AreFew refs list
   few_all refs list k past few = subst (λ (xs : List ℕ). AreFew refs xs) (take_all k list past) few
 
-  module _ (queue : Numbered) (number : ℕ) (above : queue.first ≤ number) (below : number < next_of queue) where
-    pub list_named : (old mid : Published B) → AreNamed old (names queue) → NamedMore old mid (front queue number) → AreNamed mid (list queue number above below)
+  module _ (queue : Numbered) (number : ℕ) (above : queue.first ≤ number)
+      (below : number < next_of queue) where
+    pub list_named : (old mid : Published B) → AreNamed old (names queue)
+        → NamedMore old mid (front queue number) → AreNamed mid (list queue number above below)
     list_named old mid stand named n some =
-        subst (λ (o : Option B). IsSome o) (sym (named.branches n)) (stand n (let all = times-list queue number above below n in omega arith))
+        subst (λ (o : Option B). IsSome o) (sym (named.branches n))
+        (stand n (let all = times-list queue number above below n in omega arith))
 
-    pub list_room : (old mid : Published B) → HaveRoom old (names queue) → NamedMore old mid (front queue number) → HaveRoom mid (list queue number above below)
+    pub list_room : (old mid : Published B) → HaveRoom old (names queue)
+        → NamedMore old mid (front queue number) → HaveRoom mid (list queue number above below)
     list_room old mid room named n some =
         let all = times-list queue number above below n in
         let enough = room n (omega arith) in
         let so_far = named.counts n in
         omega arith
 
-    pub named_list : (old mid new : Published B) → NamedMore old mid (front queue number) → NamedMore mid new (list queue number above below) → NamedMore old new (front queue (number + 1))
+    pub named_list : (old mid new : Published B) → NamedMore old mid (front queue number)
+        → NamedMore mid new (list queue number above below) → NamedMore old new (front queue (number + 1))
     named_list old mid new named more = record {
       counts = λ n.
-          let both = ap (times n) (front_more queue number above below) ∙ times-append n (front queue number) (list queue number above below) in
+          let both = ap (times n) (front_more queue number above below)
+          ∙ times-append n (front queue number) (list queue number above below) in
           let first = named.counts n in
           let second = more.counts n in
           omega arith;
       branches = λ n. more.branches n ∙ named.branches n;
     }
 
-    pub few_list : (refs : Published B) → AreFew refs (front queue number) → AreFew refs (list queue number above below) → AreFew refs (front queue (number + 1))
+    pub few_list : (refs : Published B) → AreFew refs (front queue number)
+        → AreFew refs (list queue number above below) → AreFew refs (front queue (number + 1))
     few_list refs first second n some =
-        let both = ap (times n) (front_more queue number above below) ∙ times-append n (front queue number) (list queue number above below) in
+        let both = ap (times n) (front_more queue number above below)
+        ∙ times-append n (front queue number) (list queue number above below) in
         by (times n (front queue number)) refl both
       where
-        by : (count : ℕ) → times n (front queue number) ≡ count → times n (front queue (number + 1)) ≡ times n (front queue number) + times n (list queue number above below) → count_at refs n < 2 ^ 62
+        by : (count : ℕ) → times n (front queue number) ≡ count
+            → times n (front queue (number + 1)) ≡ times n (front queue number) + times n
+            (list queue number above below) → count_at refs n < 2 ^ 62
         by zero none both = second n (omega arith)
         by (suc count) is both = first n (omega arith)
 
   module _ (queue : Numbered) where
     -- bundles have few branches, so what is named less often than the limit has room for all of their names
-    pub few_have_room : IsWithinLimits queue → (refs : Published B) (number : ℕ) → next_of queue ≤ number → AreFew refs (front queue number) → HaveRoom refs (names queue)
+    pub few_have_room : IsWithinLimits queue → (refs : Published B) (number : ℕ) → next_of queue ≤ number
+        → AreFew refs (front queue number) → HaveRoom refs (names queue)
     few_have_room limits refs number past few n some =
-        let all : AreFew refs (names queue) = subst (λ (xs : List ℕ). AreFew refs xs) (front_all queue number past) few in
+        let all : AreFew refs (names queue) = subst (λ (xs : List ℕ). AreFew refs xs)
+        (front_all queue number past) few in
         let below = all n some in
         let short = times_short n (names queue) in
         let long = length-joined_within queue.bundles limits.branches in

@@ -26,7 +26,8 @@ leads child None is = absurd (false≢true is)
 leads child (Some other) is = ap (λ (n : ℕ). Some n) (eqb-true other child is)
 
 -- the pivot that is found leads to the child
-pub pivot_found : (pivots : List Pivot) (child at : ℕ) → pivot_to pivots child ≡ Some at → (at < length pivots) × ((pivot_at pivots at).child ≡ Some child)
+pub pivot_found : (pivots : List Pivot) (child at : ℕ) → pivot_to pivots child ≡ Some at
+    → (at < length pivots) × ((pivot_at pivots at).child ≡ Some child)
 pivot_found pivots child at is =
     let found = position-Some (λ (pivot : Pivot). is_to child pivot.child) pivots at bare is in
     (found.0, leads child (pivot_at pivots at).child found.1)
@@ -35,15 +36,19 @@ starts : (key : List ℕ) (o : Option (List ℕ)) → is_at key o ≡ true → o
 starts key None is = absurd (false≢true is)
 starts key (Some start) is = ap (λ (bytes : List ℕ). Some bytes) ((bytes_eq-Decides start key).0 is)
 
-found_any : {X : Type 0} (p : X → Bool) (d : X) (xs : List X) → list_any p xs ≡ true → (i : ℕ) × (i < length xs) × (p (get_or xs i d) ≡ true)
+found_any : {X : Type 0} (p : X → Bool) (d : X) (xs : List X) → list_any p xs ≡ true
+    → (i : ℕ) × (i < length xs) × (p (get_or xs i d) ≡ true)
 found_any p d [] is = absurd (false≢true is)
 found_any p d (x ∷ xs) is = by (p x) refl is (λ later. found_any p d xs later)
   where
-    by : (b : Bool) → p x ≡ b → (b || list_any p xs) ≡ true → (list_any p xs ≡ true → (i : ℕ) × (i < length xs) × (p (get_or xs i d) ≡ true)) → (i : ℕ) × (i < length (x ∷ xs)) × (p (get_or (x ∷ xs) i d) ≡ true)
+    by : (b : Bool) → p x ≡ b → (b || list_any p xs) ≡ true
+        → (list_any p xs ≡ true → (i : ℕ) × (i < length xs) × (p (get_or xs i d) ≡ true))
+        → (i : ℕ) × (i < length (x ∷ xs)) × (p (get_or (x ∷ xs) i d) ≡ true)
     by true here is rest = (0, omega arith, here)
     by false here is rest = let later = rest is in (suc later.0, omega (arith, later.1), later.2)
 
-split_at : (node : NodeData) (key : List ℕ) (height : ℕ) → is_split_at height node key ≡ true → IsSplitAt height node key
+split_at : (node : NodeData) (key : List ℕ) (height : ℕ) → is_split_at height node key ≡ true
+    → IsSplitAt height node key
 split_at node key zero is = (
   first_of_both (is_past node.range.from key) (in_span node.range key) is,
   second_of_both (is_past node.range.from key) (in_span node.range key) is,
@@ -52,15 +57,30 @@ split_at node key (suc height) is =
     let found = found_any (λ (pivot : Pivot). is_at key pivot.start) bare (drop 1 node.pivots) is in
     let there = get_or-drop 1 node.pivots found.0 bare in
     let long = length-drop 1 node.pivots in
-    let start = starts key (get_or (drop 1 node.pivots) found.0 bare).start found.2 in
-    (1 + found.0, omega arith, omega (arith, found.1), sym (ap (λ (pivot : Pivot). pivot.start) there) ∙ start)
+    let start = starts key (get_or (drop 1 node.pivots) found.0 bare).start found.2 in (
+      1 + found.0,
+      omega arith,
+      omega (arith, found.1),
+      sym (ap (λ (pivot : Pivot). pivot.start) there)
+          ∙ start,
+    )
 
 -- a key that passes is a split point
 pub split_found : (node : NodeData) (key : List ℕ) → is_split_key node key ≡ true → IsSplitKey node key
 split_found node key is = split_at node key node.height is
 
 -- where all tests pass the child can be split
-pub can_divide : (nodes : List NodeData) (parent at child : ℕ) (key : List ℕ) → parent < length nodes → pivot_to (pivots_at nodes parent) child ≡ Some at → is_split_key (node_at nodes child) key ≡ true → length (pivots_at nodes parent) < 16 → length nodes < 4096 → CanDivide nodes parent at child key
+pub can_divide : (nodes : List NodeData) (parent at child : ℕ) (key : List ℕ) → parent < length nodes
+    → pivot_to (pivots_at nodes parent) child ≡ Some at → is_split_key (node_at nodes child) key ≡ true
+    → length (pivots_at nodes parent) < 16 → length nodes < 4096 → CanDivide nodes parent at child key
 can_divide nodes parent at child key exists found split few room =
     let pivot = pivot_found (pivots_at nodes parent) child at found in
-    record { exists = exists; within = pivot.0; leads = pivot.1; split = split_found (node_at nodes child) key split; pivots = few; room = room }
+    record {
+      exists = exists;
+      within = pivot.0;
+      leads = pivot.1;
+      split = split_found
+          (node_at nodes child) key split;
+      pivots = few;
+      room = room;
+    }

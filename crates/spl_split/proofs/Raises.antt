@@ -37,14 +37,16 @@ use Rattle.spl_split.proofs.Heirs.{Inherits, inherits_itself}
 use Rattle.spl_split.proofs.Grows.{AreActors, all_actors, all_apart, all_picked, all_runs, grows_framed}
 
 -- one element more is named as often as it names
-pub named-grown : (n : ℕ) (nodes : List NodeData) (node : NodeData) → times n (named (nodes ++ node ∷ [])) ≡ times n (named nodes) + times n (names node.lists)
+pub named-grown : (n : ℕ) (nodes : List NodeData) (node : NodeData)
+    → times n (named (nodes ++ node ∷ [])) ≡ times n (named nodes) + times n (names node.lists)
 named-grown n nodes node =
     let f : NodeData → List ℕ = λ m. names m.lists in
     ap (times n) (flat_map-append f nodes (node ∷ []))
     ∙ times-append n (named nodes) (names node.lists ++ [])
     ∙ ap (λ (list : List ℕ). times n (named nodes) + times n list) (append-nil (names node.lists))
 
-module _ (old : Whole) (sound : IsSound old) (actor : ℕ) (known : actor < ACTORS) (room : length old.nodes < 4096) (writes : grip_of old.grips actor 0 ≡ Write) where
+module _ (old : Whole) (sound : IsSound old) (actor : ℕ) (known : actor < ACTORS)
+    (room : length old.nodes < 4096) (writes : grip_of old.grips actor 0 ≡ Write) where
   abbrev new : Whole
   new = root_raised old actor
 
@@ -64,22 +66,29 @@ module _ (old : Whole) (sound : IsSound old) (actor : ℕ) (known : actor < ACTO
   long = length-set (old.nodes ++ lower ∷ []) 0 top ∙ long_grown
 
   root_now : node_at new.nodes 0 ≡ top
-  root_now = let count = long_grown in get_or-set_same (old.nodes ++ lower ∷ []) 0 top (fresh 0 bare) (omega arith)
+  root_now = let count = long_grown in get_or-set_same (old.nodes ++ lower ∷ []) 0 top (fresh 0 bare)
+      (omega arith)
 
   lower_now : node_at new.nodes (length old.nodes) ≡ lower
   lower_now =
       let some = sound.shaped.some in
-      get_or-set_other (old.nodes ++ lower ∷ []) 0 (length old.nodes) top (fresh 0 bare) (λ same. omega arith) ∙ get_or_at old.nodes lower [] (fresh 0 bare) (length old.nodes) refl
+      get_or-set_other (old.nodes ++ lower ∷ []) 0 (length old.nodes) top (fresh 0 bare) (λ same. omega arith)
+      ∙ get_or_at old.nodes lower [] (fresh 0 bare) (length old.nodes) refl
 
   rest_now : (n : ℕ) → n < length old.nodes → n ≢ 0 → node_at new.nodes n ≡ node_at old.nodes n
   rest_now n below other =
-      get_or-set_other (old.nodes ++ lower ∷ []) 0 n top (fresh 0 bare) other ∙ get_or_append_left old.nodes (lower ∷ []) (fresh 0 bare) n below
+      get_or-set_other (old.nodes ++ lower ∷ []) 0 n top (fresh 0 bare) other
+      ∙ get_or_append_left old.nodes (lower ∷ []) (fresh 0 bare) n below
 
-  kept : (n : ℕ) → n < length old.nodes → grip_of old.grips actor n ≢ Write → node_at new.nodes n ≡ node_at old.nodes n
+  kept : (n : ℕ) → n < length old.nodes → grip_of old.grips actor n ≢ Write
+      → node_at new.nodes n ≡ node_at old.nodes n
   kept n below free = rest_now n below (λ same. free (ap (grip_of old.grips actor) same ∙ writes))
 
-  same : (P : Actor → Actor → Type 0) → P (actor_in old.actors actor) worker → ((a : Actor) → P a a) → (who : ℕ) → P (actor_in old.actors who) (actor_in new.actors who)
-  same P here there = each_actor old.actors sound.count actor known worker (λ (n : ℕ) (a : Actor). P (actor_in old.actors n) a) here (λ other apart. there (actor_in old.actors other))
+  same : (P : Actor → Actor → Type 0) → P (actor_in old.actors actor) worker → ((a : Actor) → P a a)
+      → (who : ℕ) → P (actor_in old.actors who) (actor_in new.actors who)
+  same P here there = each_actor old.actors sound.count actor known worker
+      (λ (n : ℕ) (a : Actor). P (actor_in old.actors n) a) here
+      (λ other apart. there (actor_in old.actors other))
 
   are : AreActors old.actors new.actors actor (length new.nodes)
   are = record {
@@ -91,7 +100,9 @@ module _ (old : Whole) (sound : IsSound old) (actor : ℕ) (known : actor < ACTO
     told = same (λ was now. was.told ≤ now.told) (omega arith) (λ a. omega arith);
     most = λ who below.
         let before = (sound.actors who below).told in
-        let more : (actor_in new.actors who).told ≤ max (actor_in old.actors who).told (length old.nodes + 1) = same (λ was now. now.told ≤ max was.told (length old.nodes + 1)) (omega arith) (λ a. omega arith) who in
+        let next = length old.nodes + 1 in
+        let more : (actor_in new.actors who).told ≤ max (actor_in old.actors who).told next =
+        same (λ was now. now.told ≤ max was.told next) (omega arith) (λ a. omega arith) who in
         let all = long in
         omega arith;
   }
@@ -103,7 +114,8 @@ module _ (old : Whole) (sound : IsSound old) (actor : ℕ) (known : actor < ACTO
       let more = named-grown n old.nodes lower in
       let some : 0 < length grown = let count = long in let set = length-set grown 0 top in omega arith in
       let change = times-replaced (λ (node : NodeData). names node.lists) n grown 0 top (fresh 0 bare) some in
-      let was = ap (λ (node : NodeData). times n (names node.lists)) (get_or_append_left old.nodes (lower ∷ []) (fresh 0 bare) 0 sound.shaped.some) in
+      let was = ap (λ (node : NodeData). times n (names node.lists))
+      (get_or_append_left old.nodes (lower ∷ []) (fresh 0 bare) 0 sound.shaped.some) in
       let none : times n (names top.lists) ≡ 0 = refl in
       omega arith
 
@@ -124,40 +136,65 @@ module _ (old : Whole) (sound : IsSound old) (actor : ℕ) (known : actor < ACTO
   }
 
   -- the new node has the root's runs, and the root has no bundle
-  heirs : (n : ℕ) → n < length new.nodes → ((m : ℕ) × (m < length old.nodes) × Inherits (node_at old.nodes m) (node_at new.nodes n)) ⊎ ((number : ℕ) → Stands (node_at new.nodes n).lists number → ⊥)
+  heirs : (n : ℕ) → n < length new.nodes
+      → ((m : ℕ) × (m < length old.nodes) × Inherits (node_at old.nodes m) (node_at new.nodes n))
+      ⊎ ((number : ℕ) → Stands (node_at new.nodes n).lists number → ⊥)
   heirs n below = elim (cases_eq n 0) [
     | inl root ↦ inr (λ number stands.
-        let none : Stands top.lists number = subst (λ (node : NodeData). Stands node.lists number) (ap (node_at new.nodes) root ∙ root_now) stands in
+        let none : Stands top.lists number = subst (λ (node : NodeData). Stands node.lists number)
+        (ap (node_at new.nodes) root ∙ root_now) stands in
         omega (arith, none.0, none.1))
     | inr other ↦ elim (cases_lt n (length old.nodes)) [
-      | inl within ↦ inl (n, within, subst (λ (node : NodeData). Inherits (node_at old.nodes n) node) (sym (rest_now n within other)) (inherits_itself (node_at old.nodes n)))
+      | inl within ↦ inl (
+        n,
+        within,
+        subst (λ (node : NodeData). Inherits (node_at old.nodes n) node)
+            (sym (rest_now n within other)) (inherits_itself (node_at old.nodes n)),
+      )
       | inr past ↦
           let is : n ≡ length old.nodes = let count = long in omega arith in
-          let like : Inherits (node_at old.nodes 0) lower = record { lists = refl; height = refl; within = λ key inside. inside; uncut = λ first last uncut. uncut } in
-          inl (0, sound.shaped.some, subst (λ (node : NodeData). Inherits (node_at old.nodes 0) node) (sym (ap (node_at new.nodes) is ∙ lower_now)) like)
+          let was = node_at old.nodes 0 in
+          let like : Inherits was lower = record {
+            lists = refl;
+            height = refl;
+            within = λ key inside. inside;
+            uncut = λ first last uncut. uncut;
+          } in
+          inl (
+            0,
+            sound.shaped.some,
+            subst (λ (node : NodeData). Inherits (node_at old.nodes 0) node)
+                (sym (ap (node_at new.nodes) is ∙ lower_now)) like,
+          )
     ]
   ]
 
   -- what holds of the nodes that were, of the new one and of the root, holds of each
   all_nodes : (P : NodeData → Type 0) → All P old.nodes → P lower → P top → All P new.nodes
   all_nodes P all of_lower of_top =
-      All-set P (old.nodes ++ lower ∷ []) 0 top of_top (All-append P old.nodes (lower ∷ []) all (All-cons P lower [] of_lower (All-nil P)))
+      All-set P (old.nodes ++ lower ∷ []) 0 top of_top (All-append P old.nodes (lower ∷ []) all
+      (All-cons P lower [] of_lower (All-nil P)))
 
   ends : HasAllEnds new.nodes
   ends =
       let top = All-get_or HasEnds old.nodes 0 (fresh 0 bare) sound.shaped.some sound.ends.each in
+      let single : Bundle → Type 0 = λ bundle. length bundle.branches ≤ 1 in
       record {
-        each = all_nodes HasEnds sound.ends.each (record { mark = top.mark; front = top.front }) (record { mark = λ low. absurd (omega arith); front = tt });
-        root = subst (λ (node : NodeData). All (λ (bundle : Bundle). length bundle.branches ≤ 1) node.lists.bundles) (sym root_now) (All-nil (λ (bundle : Bundle). length bundle.branches ≤ 1));
+        each = all_nodes HasEnds sound.ends.each (record { mark = top.mark; front = top.front })
+            (record { mark = λ low. absurd (omega arith); front = tt });
+        root = subst (λ (node : NodeData). All single node.lists.bundles) (sym root_now) (All-nil single);
       }
 
-  bounded : AreBelow old.nodes old.tables old.counters → AreBounded new.nodes (branches new) new.tables new.counters
+  bounded : AreBelow old.nodes old.tables old.counters
+      → AreBounded new.nodes (branches new) new.tables new.counters
   bounded fresh_numbers =
       let steps = old.counters.steps in
       let lists : NodeData → Type 0 = λ node. next_of node.lists ≤ steps in
       let generations : NodeData → Type 0 = λ node. node.generation ≤ steps in
-      let list = All-get_or (λ (node : NodeData). next_of node.lists < steps) old.nodes 0 (fresh 0 bare) sound.shaped.some fresh_numbers.lists in
-      let generation = All-get_or (λ (node : NodeData). node.generation < steps) old.nodes 0 (fresh 0 bare) sound.shaped.some fresh_numbers.generations in
+      let list = All-get_or (λ (node : NodeData). next_of node.lists < steps) old.nodes 0
+      (fresh 0 bare) sound.shaped.some fresh_numbers.lists in
+      let generation = All-get_or (λ (node : NodeData). node.generation < steps) old.nodes 0
+      (fresh 0 bare) sound.shaped.some fresh_numbers.generations in
       record {
         steps = sound.bounds.steps;
         places = sound.bounds.places;
@@ -193,43 +230,67 @@ module _ (old : Whole) (sound : IsSound old) (actor : ℕ) (known : actor < ACTO
     bounds = bounded fresh_numbers;
   }
 
-  pub raised_framed : (rule : Rule) (tells : Bool) → (tells ≡ true → AreDrafts rule old) → IsFramed rule tells old new actor
+  pub raised_framed : (rule : Rule) (tells : Bool) → (tells ≡ true → AreDrafts rule old)
+      → IsFramed rule tells old new actor
   raised_framed rule tells drafts =
       grows_framed old sound actor new.nodes old.refs new.actors long kept refl are rule tells
-      (λ told n key below free inside. sub_but_root old.nodes sound.shaped rule _ (node_at new.nodes) rest_now (node_at old.nodes n).height n key below (λ same. free (ap (grip_of old.grips actor) same ∙ writes)) refl inside)
+      (λ told n key below free inside. sub_but_root old.nodes sound.shaped rule _ (node_at new.nodes) rest_now
+      (node_at old.nodes n).height n key below (λ same. free
+      (ap (grip_of old.grips actor) same ∙ writes)) refl inside)
       drafts
-      (λ told key. means_raised old.nodes sound.shaped rule _ (node_at new.nodes) rest_now (length old.nodes) lower_now root_now (tables_of old.tables) key)
+      (λ told key. means_raised old.nodes sound.shaped rule _ (node_at new.nodes) rest_now
+      (length old.nodes) lower_now root_now (tables_of old.tables) key)
 
 -- the same, where the state is seen through its parts
-module _ (whole : Whole) (sound : IsSound whole) (actor : ℕ) (known : actor < ACTORS) (room : length whole.nodes < 4096) (writes : grip_of whole.grips actor 0 ≡ Write) (number : ℕ) (number_is : number ≡ length whole.grips) (nodes : List NodeData) (grips : List (List Grip)) (actors : List Actor) (nodes_are : nodes ≡ raised whole.nodes) (grips_are : grips ≡ whole.grips ++ nobody ∷ []) (actors_are : actors ≡ set whole.actors actor (told_of (actor_in whole.actors actor) number)) where
+module _ (whole : Whole) (sound : IsSound whole) (actor : ℕ) (known : actor < ACTORS)
+    (room : length whole.nodes < 4096) (writes : grip_of whole.grips actor 0 ≡ Write) (number : ℕ)
+    (number_is : number ≡ length whole.grips) (nodes : List NodeData) (grips : List (List Grip))
+    (actors : List Actor) (nodes_are : nodes ≡ raised whole.nodes)
+    (grips_are : grips ≡ whole.grips ++ nobody ∷ [])
+    (actors_are : actors ≡ set whole.actors actor (told_of (actor_in whole.actors actor) number)) where
   abbrev made : Whole
   made = record whole { nodes = nodes; grips = grips; actors = actors }
 
   pub raise_made : made ≡ root_raised whole actor
   raise_made =
-      let told = actors_are ∙ ap (λ (n : ℕ). set whole.actors actor (told_of (actor_in whole.actors actor) n)) (number_is ∙ sound.latches) in
+      let told = actors_are ∙ ap (λ (n : ℕ). set whole.actors actor (told_of (actor_in whole.actors actor) n))
+      (number_is ∙ sound.latches) in
       ap (λ (n : List NodeData). record whole { nodes = n; grips = grips; actors = actors }) nodes_are
-      ∙ ap (λ (h : List (List Grip)). record whole { nodes = raised whole.nodes; grips = h; actors = actors }) grips_are
-      ∙ ap (λ (a : List Actor). record whole { nodes = raised whole.nodes; grips = whole.grips ++ nobody ∷ []; actors = a }) told
+      ∙ ap (λ (h : List (List Grip)). record whole { nodes = raised whole.nodes; grips = h; actors = actors })
+      grips_are
+      ∙ ap (λ (a : List Actor). record whole {
+        nodes = raised whole.nodes;
+        grips = whole.grips ++ nobody ∷ [];
+        actors = a;
+      }) told
 
   pub raise_sound : AreBelow whole.nodes whole.tables whole.counters → All IsLatched grips → IsSound made
   raise_sound fresh_numbers latched =
-      subst (λ (w : Whole). IsSound w) (sym raise_made) (raised_sound whole sound actor known room writes fresh_numbers (subst (λ (h : List (List Grip)). All IsLatched h) grips_are latched))
+      subst (λ (w : Whole). IsSound w) (sym raise_made)
+      (raised_sound whole sound actor known room writes fresh_numbers
+      (subst (λ (h : List (List Grip)). All IsLatched h) grips_are latched))
 
-  pub raise_framed : (old : Whole) → whole ≡ old → (rule : Rule) (tells : Bool) → (tells ≡ true → AreDrafts rule old) → IsFramed rule tells old made actor
+  pub raise_framed : (old : Whole) → whole ≡ old → (rule : Rule) (tells : Bool)
+      → (tells ≡ true → AreDrafts rule old) → IsFramed rule tells old made actor
   raise_framed old view_is rule tells drafts =
-      let drafts_here : tells ≡ true → AreDrafts rule whole = λ told. subst (λ (w : Whole). AreDrafts rule w) (sym view_is) (drafts told) in
+      let drafts_here : tells ≡ true → AreDrafts rule whole = λ told. subst (λ (w : Whole). AreDrafts rule w)
+      (sym view_is) (drafts told) in
       let framed = raised_framed whole sound actor known room writes rule tells drafts_here in
-      subst (λ (w : Whole). IsFramed rule tells w made actor) view_is (subst (λ (w : Whole). IsFramed rule tells whole w actor) (sym raise_made) framed)
+      subst (λ (w : Whole). IsFramed rule tells w made actor) view_is
+      (subst (λ (w : Whole). IsFramed rule tells whole w actor) (sym raise_made) framed)
 
   -- the new node has the bundles of the root, with their marks
   pub raise_marks : (old : Whole) → whole ≡ old → lists_at nodes (length old.nodes) ≡ lists_at old.nodes 0
   raise_marks old view_is =
-      let here = ap (λ (n : List NodeData). lists_at n (length whole.nodes)) nodes_are ∙ ap (λ (node : NodeData). node.lists) (lower_now whole sound actor known room writes) in
+      let here = ap (λ (n : List NodeData). lists_at n (length whole.nodes)) nodes_are
+      ∙ ap (λ (node : NodeData). node.lists) (lower_now whole sound actor known room writes) in
       subst (λ (w : Whole). lists_at nodes (length w.nodes) ≡ lists_at w.nodes 0) view_is here
 
-pub not_raised_framed : (whole old : Whole) (view_is : whole ≡ old) (nodes : List NodeData) (actor : ℕ) (rule : Rule) (tells : Bool) → (tells ≡ true → AreDrafts rule old) → nodes ≡ whole.nodes → IsFramed rule tells old (record whole { nodes = nodes }) actor
+pub not_raised_framed : (whole old : Whole) (view_is : whole ≡ old) (nodes : List NodeData) (actor : ℕ)
+    (rule : Rule) (tells : Bool) → (tells ≡ true → AreDrafts rule old) → nodes ≡ whole.nodes
+    → IsFramed rule tells old (record whole { nodes = nodes }) actor
 not_raised_framed whole old view_is nodes actor rule tells drafts is =
     let framed = unchanged_framed rule tells old drafts actor in
-    let here : IsFramed rule tells old whole actor = subst (λ (w : Whole). IsFramed rule tells old w actor) (sym view_is) framed in
+    let here : IsFramed rule tells old whole actor = subst (λ (w : Whole). IsFramed rule tells old w actor)
+    (sym view_is) framed in
     subst (λ (n : List NodeData). IsFramed rule tells old (record whole { nodes = n }) actor) (sym is) here

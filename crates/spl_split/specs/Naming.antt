@@ -14,7 +14,8 @@ module _ {B : Type 0} where
 
   -- the count of each branch of the list has room for the names that the list gives
   abbrev pub HaveRoom : Published B → List ℕ → Type 0
-  HaveRoom refs list = (number : ℕ) → 0 < times number list → count_at refs number + times number list ≤ 2 ^ 63
+  HaveRoom refs list = (number : ℕ) → 0 < times number list → count_at refs number + times number list ≤ 2 ^
+      63
 
   -- each branch is named more often by the times that the list has it
   pub record NamedMore (old new : Published B) (list : List ℕ) : Type 0 where

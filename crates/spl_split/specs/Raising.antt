@@ -1,5 +1,5 @@
 -- What a raise answers, and what it makes of the state.
-use Rattle.std.specs.Prelude.{◌≡◌, ℕ, ◌<◌, nat_lt, if◌then◌else◌, [], ◌∷◌, ◌++◌, length, slice_set}
+use Rattle.std.specs.Prelude.{◌≡◌, ℕ, ◌<◌, ◌==◌, not, if◌then◌else◌, [], ◌∷◌, ◌++◌, length, slice_set}
 use Rattle.spl_holds.specs.declared.grip.Grip.TheVariants.{Write}
 use Rattle.spl_holds.specs.Grip.{is_write}
 use Rattle.spl_holds.specs.Holds.{grip_of}
@@ -16,15 +16,17 @@ module _ {B : Type 0} where
   -- what a raise answers, where memory does not run out
   abbrev pub raise_answer : Whole → ℕ → Reply B
   raise_answer whole actor =
-      if is_write (grip_of whole.grips actor 0) then (if nat_lt (length whole.nodes) MAX_NODES then reply.Done else reply.Nodes MAX_NODES)
-      else reply.Unfit (state_of whole actor)
+      if not (is_write (grip_of whole.grips actor 0)) then reply.Unfit (state_of whole actor)
+      else if length whole.nodes == MAX_NODES then reply.Nodes MAX_NODES
+      else reply.Done
 
 -- the actor writes the root, and there is room for a node
 pub record MayRaise (whole : Whole) (actor : ℕ) : Type 0 where
   pub writes : grip_of whole.grips actor 0 ≡ Write
   pub room : length whole.nodes < MAX_NODES
 
--- the root is raised over a new node that is what it was; nobody has a grip on that node, and the actor was told of it
+-- The root is raised over a new node that is what it was. Nobody has a grip on that node, and the actor is told
+-- of it.
 abbrev pub root_raised : Whole → ℕ → Whole
 root_raised whole actor = record whole {
   nodes = raised whole.nodes;

@@ -1,5 +1,5 @@
 -- What a split answers, and what it makes of the state.
-use Rattle.std.specs.Prelude.{◌≡◌, ℕ, zero, suc, ◌+◌, ◌<◌, ◌==◌, ◌&&◌, nat_lt, Bool, true, false, if◌then◌else◌, List, [], ◌∷◌, ◌++◌, Option, Some, None, IsSome, length, drop, position}
+use Rattle.std.specs.Prelude.{◌≡◌, ℕ, zero, suc, ◌+◌, ◌<◌, ◌==◌, ◌&&◌, not, Bool, true, false, if◌then◌else◌, List, [], ◌∷◌, ◌++◌, Option, Some, None, IsSome, length, drop, position}
 use Rattle.std.specs.List.{list_any}
 use Rattle.spl_message.specs.Key.{same_key}
 use Rattle.spl_bundle.specs.Numbered.{names}
@@ -35,7 +35,7 @@ abbrev pub is_at : List ℕ → Option (List ℕ) → Bool
 is_at key None = false
 is_at key (Some start) = same_key start key
 
--- a leaf is split at a key of its range above its start, and every other node where a pivot but the first starts
+-- a leaf is split at a key of its range above its start, any other node where a pivot but the first starts
 abbrev pub is_split_at : ℕ → NodeData → List ℕ → Bool
 is_split_at zero node key = is_inside node.range key
 is_split_at (suc height) node key = list_any (λ (pivot : Pivot). is_at key pivot.start) (drop 1 node.pivots)
@@ -43,23 +43,28 @@ is_split_at (suc height) node key = list_any (λ (pivot : Pivot). is_at key pivo
 abbrev pub is_split_key : NodeData → List ℕ → Bool
 is_split_key node key = is_split_at node.height node key
 
+-- the actor writes both nodes
+abbrev pub writes_both : Whole → ℕ → ℕ → ℕ → Bool
+writes_both whole actor parent child =
+    is_write (grip_of whole.grips actor parent) && is_write (grip_of whole.grips actor child)
+
 module _ {B : Type 0} where
   -- what a split answers, where the parent leads to the child by this pivot, or by none
   abbrev pub answer_at : Whole → ℕ → ℕ → List ℕ → Option ℕ → Reply B
   answer_at whole parent child key None = reply.Moved child
   answer_at whole parent child key (Some at) =
-      if is_split_key (node_at whole.nodes child) key then
-      (if nat_lt (length (pivots_at whole.nodes parent)) MAX_PIVOTS then (if nat_lt (length whole.nodes) MAX_NODES then reply.Done else reply.Nodes MAX_NODES)
-      else reply.Pivots MAX_PIVOTS)
-      else reply.Outside
+      if not (is_split_key (node_at whole.nodes child) key) then reply.Outside
+      else if length (pivots_at whole.nodes parent) == MAX_PIVOTS then reply.Pivots MAX_PIVOTS
+      else if length whole.nodes == MAX_NODES then reply.Nodes MAX_NODES
+      else reply.Done
 
   -- what a split answers, where memory does not run out
   abbrev pub split_answer : Whole → ℕ → ℕ → ℕ → List ℕ → Reply B
   split_answer whole actor parent child key =
-      if is_write (grip_of whole.grips actor parent) && is_write (grip_of whole.grips actor child) then answer_at whole parent child key (pivot_to (pivots_at whole.nodes parent) child)
-      else reply.Unfit (state_of whole actor)
+      if not (writes_both whole actor parent child) then reply.Unfit (state_of whole actor)
+      else answer_at whole parent child key (pivot_to (pivots_at whole.nodes parent) child)
 
--- the parent leads to the child by this pivot and has room for one more, and the key is a split point of the child
+-- the parent leads to the child by this pivot and has room for one more, and the child can be split at the key
 pub record CanDivide (nodes : List NodeData) (parent at child : ℕ) (key : List ℕ) : Type 0 where
   pub exists : parent < length nodes
   pub within : at < length (pivots_at nodes parent)
@@ -77,10 +82,11 @@ pub record MaySplit (whole : Whole) (actor parent child : ℕ) (key : List ℕ) 
   pub pivots : length (pivots_at whole.nodes parent) < MAX_PIVOTS
   pub room : length whole.nodes < MAX_NODES
 
--- The child keeps the part below the key, and a new node, on which nobody has a grip, has the part from the key on. The parent
--- has a pivot for that behind the child's, with its mark. What the child's bundles name is named once more by the new node.
+-- The child keeps the part below the key. A new node, on which nobody has a grip, has the part from the key on,
+-- and the parent a pivot for it behind the child's, with the same mark. What the bundles name is named once more.
 pub record HasSplit (old new : Whole) (parent at child : ℕ) (key : List ℕ) : Type 0 where
-  pub counts : (number : ℕ) → counts new number ≡ counts old number + times number (names (lists_at old.nodes child))
+  pub counts : (number : ℕ)
+      → counts new number ≡ counts old number + times number (names (lists_at old.nodes child))
   pub branches : (number : ℕ) → branches new number ≡ branches old number
   pub all : new ≡ record old {
     nodes = divided old.nodes parent at child key;

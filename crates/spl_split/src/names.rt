@@ -7,10 +7,10 @@ use spl_bundle::Bundles;
 use spl_message::Content;
 use spl_refs::Refs;
 
-/// How often a branch may be named before its bundles are shared.
+/// Below this count a branch can be named once more by all bundles of a node: a count is a `u64`.
 const LIMIT: u64 = 1 << 62;
 
-/// Whether no branch of the bundles is named so often that it can't be named again by all of them.
+/// Whether the count of each branch has room for the names that a copy of the bundles adds.
 pub(crate) fn can_name<B: Content>(refs: &Refs<B>, lists: &Bundles) -> bool
     ensures { result ≡ true → HaveRoom refs.now (names lists.now) }
 {

@@ -6,14 +6,18 @@ use Rattle.spl_split.proofs.names.name_again.Goals as goal
 pub name_list-requires-clause-stand : goal.name_list-requires-clause-stand
 name_list-requires-clause-stand g c =
     subst (λ (list : List ℕ). AreNamed c.loop-number.refs list) (sym c.list.ensures)
-    (list_named c.args.lists.now c.loop-number.number (omega arith) (omega arith) c.args.refs.now c.loop-number.refs c.requires.stand c.loop-number.invariant)
+    (list_named c.args.lists.now c.loop-number.number (omega arith)
+    (omega arith) c.args.refs.now c.loop-number.refs c.requires.stand c.loop-number.invariant)
 
 pub name_list-requires-clause-room : goal.name_list-requires-clause-room
 name_list-requires-clause-room g c =
     subst (λ (list : List ℕ). HaveRoom c.loop-number.refs list) (sym c.list.ensures)
-    (list_room c.args.lists.now c.loop-number.number (omega arith) (omega arith) c.args.refs.now c.loop-number.refs c.requires.room c.loop-number.invariant)
+    (list_room c.args.lists.now c.loop-number.number (omega arith)
+    (omega arith) c.args.refs.now c.loop-number.refs c.requires.room c.loop-number.invariant)
 
 pub loop-number-preserved : goal.loop-number-preserved
 loop-number-preserved g c =
-    named_list c.args.lists.now c.loop-number.number (omega arith) (omega arith) c.args.refs.now c.loop-number.refs c.name_list.new.refs c.loop-number.invariant
-    (subst (λ (list : List ℕ). NamedMore c.loop-number.refs c.name_list.new.refs list) c.list.ensures c.name_list.ensures)
+    named_list c.args.lists.now c.loop-number.number (omega arith)
+    (omega arith) c.args.refs.now c.loop-number.refs c.name_list.new.refs c.loop-number.invariant
+    (subst (λ (list : List ℕ). NamedMore c.loop-number.refs c.name_list.new.refs list) c.list.ensures
+    c.name_list.ensures)
