@@ -1,14 +1,12 @@
 //! The step that splits a node in two.
-ghost use Rattle.std.specs.Prelude.{◌≡◌, ◌≢◌, ℕ, ◌<◌, ◌≤◌, ◌+◌, ◌^◌, true, Some, length, drop, OnOk, OnErr};
+ghost use Rattle.std.specs.Prelude.{◌≡◌, ◌≢◌, ℕ, ◌<◌, ◌^◌, true, Some, length, drop, OnOk, OnErr};
 ghost use Rattle.std.specs.List.{list_any};
 ghost use Rattle.spl_base.specs.declared.TheConstants.{ACTORS};
-ghost use Rattle.spl_bundle.specs.Numbered.{names};
 ghost use Rattle.spl_holds.specs.Grip.{is_write};
 ghost use Rattle.spl_holds.specs.Holds.{grip_of};
 ghost use Rattle.spl_message.specs.Rule.{Rule};
-ghost use Rattle.spl_refs.specs.Refs.{held_at, count_at, branch_at};
 ghost use Rattle.spl_trunk.specs.Moves.{divided};
-ghost use Rattle.spl_trunk.specs.Tree.{IsShaped, times};
+ghost use Rattle.spl_trunk.specs.Tree.{IsShaped};
 ghost use Rattle.spl_trunk.specs.Trunk.{node_at};
 ghost use Rattle.spl_state.specs.Bounds.{AreBelow};
 ghost use Rattle.spl_state.specs.Frame.{IsFramed};
@@ -68,6 +66,7 @@ pub fn split<B: Content>(
     if nodes == MAX_NODES as u32 {
         return Reply::Nodes { nodes };
     }
+    // The new node names the branches of the bundles once more, so their counts need room for that.
     if !can_name(&parts.refs, node.lists()) {
         return Reply::NoMemory;
     }
