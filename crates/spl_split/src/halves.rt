@@ -1,14 +1,12 @@
 //! The step that splits a node in two.
-ghost use Rattle.std.specs.Prelude.{◌≡◌, ◌≢◌, ℕ, ◌<◌, ◌≤◌, ◌+◌, ◌^◌, true, Some, length, drop, OnOk, OnErr};
+ghost use Rattle.std.specs.Prelude.{◌≡◌, ◌≢◌, ℕ, ◌<◌, ◌^◌, true, Some, length, drop, OnOk, OnErr};
 ghost use Rattle.std.specs.List.{list_any};
 ghost use Rattle.spl_base.specs.declared.TheConstants.{ACTORS};
-ghost use Rattle.spl_bundle.specs.Numbered.{names};
 ghost use Rattle.spl_holds.specs.Grip.{is_write};
 ghost use Rattle.spl_holds.specs.Holds.{grip_of};
 ghost use Rattle.spl_message.specs.Rule.{Rule};
-ghost use Rattle.spl_refs.specs.Refs.{held_at, count_at, branch_at};
 ghost use Rattle.spl_trunk.specs.Moves.{divided};
-ghost use Rattle.spl_trunk.specs.Tree.{IsShaped, times};
+ghost use Rattle.spl_trunk.specs.Tree.{IsShaped};
 ghost use Rattle.spl_trunk.specs.Trunk.{node_at};
 ghost use Rattle.spl_state.specs.Bounds.{AreBelow};
 ghost use Rattle.spl_state.specs.Frame.{IsFramed};
@@ -16,7 +14,7 @@ ghost use Rattle.spl_state.specs.Sight.{is_inside};
 ghost use Rattle.spl_state.specs.Sound.{AreDrafts};
 ghost use Rattle.spl_split.specs.Splitting.{is_at, is_split_key, pivot_to, split_answer, CanDivide, MaySplit, HasSplit, ShareBundles};
 
-use crate::names::{can_name, name_again};
+use crate::names::name_again;
 use spl_base::{ACTORS, NoMemory};
 use spl_holds::{Grip, Holds};
 use spl_message::{Content, Key, Span};
@@ -37,6 +35,7 @@ pub fn split<B: Content>(
 ) -> Reply<B>
     requires known { actor < ACTORS }
     requires fresh { AreBelow parts.old.nodes parts.old.tables parts.old.counters }
+    requires few { (number : ℕ) → counts parts.old number < 2 ^ 62 }
     ensures answer { result ≢ Reply.NoMemory → result ≡ split_answer parts.old actor parent child key.now }
     ensures memory { result ≡ Reply.NoMemory → MaySplit parts.old actor parent child key.now }
     ensures done { (at : ℕ) → pivot_to (node_at parts.old.nodes parent).pivots child ≡ Some at
@@ -68,9 +67,7 @@ pub fn split<B: Content>(
     if nodes == MAX_NODES as u32 {
         return Reply::Nodes { nodes };
     }
-    if !can_name(&parts.refs, node.lists()) {
-        return Reply::NoMemory;
-    }
+    // The new node names the branches of the bundles once more, so their counts need room for that.
     if divide(alloc, &mut parts.trunk, parent, at, child, key).is_err() {
         return Reply::NoMemory;
     }

@@ -1,5 +1,5 @@
 //! The step that makes the trunk one higher.
-ghost use Rattle.std.specs.Prelude.{◌≡◌, ◌≢◌, ℕ, ◌<◌, ◌^◌, true, length, IfOk, OnOk, OnErr};
+ghost use Rattle.std.specs.Prelude.{◌≡◌, ◌≢◌, ◌<◌, ◌^◌, true, length, OnOk, OnErr};
 ghost use Rattle.spl_base.specs.declared.TheConstants.{ACTORS};
 ghost use Rattle.spl_message.specs.Rule.{Rule};
 ghost use Rattle.spl_trunk.specs.Moves.{raised};
