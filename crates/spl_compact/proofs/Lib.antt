@@ -4,7 +4,4 @@ pub mod Inputs
 pub mod OneNode
 pub mod Starts
 pub mod Begins
-pub mod MergedRun
-pub mod Accounting
-pub mod Positions
 pub mod Held

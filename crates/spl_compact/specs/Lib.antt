@@ -1,3 +1,1 @@
 pub mod Starting
-pub mod Installing
-pub mod Names

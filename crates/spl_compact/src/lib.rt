@@ -7,11 +7,7 @@
 #![tactic(auto)]
 
 mod begin;
-mod heirs;
-mod merging;
 mod names;
 mod refusal;
-mod serve;
 
 pub use begin::start;
-pub use serve::install;

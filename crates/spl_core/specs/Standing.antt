@@ -12,7 +12,7 @@ use Rattle.spl_state.specs.declared.reply.Reply.TheVariants.{Placed, Sight}
 use Rattle.spl_state.specs.Sound.{AreDrafts, meaning}
 use Rattle.spl_state.specs.Whole.{Whole}
 use Rattle.spl_core.specs.declared.step.Step.{Step}
-use Rattle.spl_core.specs.declared.step.Step.TheVariants.{Put, Rotate, Begin, MoveDown, End, Claim, Lock, Unlock, PickFrozen, Grant, Publish, Incorporate, Survey, Abandon, Retire}
+use Rattle.spl_core.specs.declared.step.Step.TheVariants.{Put, Rotate, Begin, MoveDown, End, Claim, Lock, Unlock, PickFrozen, Grant, Publish, Incorporate, Flush, Start, Raise, Split, Survey, Abandon, Retire}
 
 -- The calls of the history have the places, and where devices tell their pages each key means what the history leaves of it, and
 -- what a job published is what the job asks for.
@@ -46,6 +46,10 @@ module _ {B : Type 0} where
   called actor Grant reply = []
   called actor (Publish branch) reply = []
   called actor Incorporate reply = []
+  called actor (Flush parent child) reply = []
+  called actor (Start node first last) reply = []
+  called actor Raise reply = []
+  called actor (Split parent child key) reply = []
   called actor (Survey node) reply = []
   called actor Abandon reply = []
   called actor Retire reply = []
@@ -64,6 +68,10 @@ module _ {B : Type 0} where
   Knows table_of rule whole actor Grant = Unit {0}
   Knows table_of rule whole actor (Publish branch) = AsksFor rule whole actor (table_of branch.value)
   Knows table_of rule whole actor Incorporate = Unit {0}
+  Knows table_of rule whole actor (Flush parent child) = Unit {0}
+  Knows table_of rule whole actor (Start node first last) = Unit {0}
+  Knows table_of rule whole actor Raise = Unit {0}
+  Knows table_of rule whole actor (Split parent child key) = Unit {0}
   Knows table_of rule whole actor (Survey node) = Unit {0}
   Knows table_of rule whole actor Abandon = Unit {0}
   Knows table_of rule whole actor Retire = Unit {0}

@@ -1,5 +1,5 @@
 -- What each step answers, and what it makes of the state.
-use Rattle.std.specs.Prelude.{◌≡◌, ◌≢◌, ℕ, ◌<◌, ◌≤◌, ◌↔◌, ◌⊎◌, List, [], map, length, Some, IfSome}
+use Rattle.std.specs.Prelude.{◌≡◌, ◌≢◌, ℕ, ◌+◌, ◌<◌, ◌≤◌, ◌↔◌, ◌⊎◌, List, [], map, length, Some, IfSome}
 use Rattle.spl_memtable.specs.Memtable.{IsFull, Puts}
 use Rattle.spl_message.specs.declared.message.Message.{Message}
 use Rattle.spl_message.specs.Rule.{Rule}
@@ -11,10 +11,16 @@ use Rattle.spl_state.specs.declared.reply.Reply.TheVariants.{Done, Placed, Rotat
 use Rattle.spl_tables.specs.Memtables.{first_unpicked, tables_of}
 use Rattle.spl_state.specs.Actor.{actor_in}
 use Rattle.spl_state.specs.Reply.{state_of}
-use Rattle.spl_state.specs.Whole.{BranchData, Whole}
+use Rattle.spl_state.specs.Whole.{BranchData, Whole, counts}
 use Rattle.spl_abandon.specs.Abandoning.{HasAbandoned}
 use Rattle.spl_descent.specs.Descents.{first_descent, next_descent, begin_refusal, begun, move_refusal, moved_down, end_answer, ended}
 use Rattle.spl_descent.specs.Sights.{IsSightOf, OnSight, IfSight, Answers}
+use Rattle.spl_trunk.specs.Trunk.{node_at}
+use Rattle.spl_flush.specs.Flushing.{flush_answer, pivot_to, IsFlushed}
+use Rattle.spl_compact.specs.Starting.{start_refusal, run_at, Starts, IsTicketOf, OnTicket, IfTicket, AnswersTicket}
+use Rattle.spl_split.specs.Raising.{raise_answer, MayRaise, root_raised}
+use Rattle.spl_split.specs.Splitting as splits
+use Rattle.spl_split.specs.Splitting.{split_answer, MaySplit, HasSplit, ShareBundles}
 use Rattle.spl_survey.specs.Surveys.{IsViewOf, OnView, IfView, surveyed}
 use Rattle.spl_pack.specs.Granting.{extent_in, grant_answer, Grants}
 use Rattle.spl_pack.specs.Incorporating.{incorporate_answer, IsIncorporated}
@@ -24,7 +30,7 @@ use Rattle.spl_steps.specs.Latching.{claim_answer, lock_answer, unlock_answer, g
 use Rattle.spl_steps.specs.Memory.{HasPut, has_rotated}
 use Rattle.spl_steps.specs.Retiring.{retire_answer, after_retire}
 use Rattle.spl_core.specs.declared.step.Step.{Step}
-use Rattle.spl_core.specs.declared.step.Step.TheVariants.{Put, Rotate, Begin, MoveDown, End, Claim, Lock, Unlock, PickFrozen, Grant, Publish, Incorporate, Survey, Abandon, Retire}
+use Rattle.spl_core.specs.declared.step.Step.TheVariants.{Put, Rotate, Begin, MoveDown, End, Claim, Lock, Unlock, PickFrozen, Grant, Publish, Incorporate, Flush, Start, Raise, Split, Survey, Abandon, Retire}
 
 module _ {B : Type 0} where
   pub record IsPut (rule : Rule) (old : Whole) (key : List ℕ) (message : Message) (reply : Reply B) (new : Whole) : Type 0 where
@@ -80,6 +86,32 @@ module _ {B : Type 0} where
     pub sight : IfSome (actor_in old.actors actor).descent (λ descent. IfSight reply (IsSightOf number_of data_of old (next_descent old descent)))
     pub tables : IfSight reply (λ sight. sight.tables ≡ [])
 
+  pub record IsFlush (old : Whole) (actor parent child : ℕ) (reply : Reply B) (new : Whole) : Type 0 where
+    pub answer : reply ≡ flush_answer old actor parent child
+    pub done : (pivot : ℕ) → pivot_to (node_at old.nodes parent).pivots child ≡ Some pivot → reply ≡ Done → IsFlushed old new parent pivot child
+    pub few : (number : ℕ) → counts new number ≤ counts old number + 32
+    pub refused : reply ≢ Done → new ≡ old
+
+  pub record IsStart (number_of : B → ℕ) (data_of : B → BranchData) (old : Whole) (actor node first last : ℕ) (reply : Reply B) (new : Whole) : Type 0 where
+    pub answer : AnswersTicket (start_refusal old actor node first last) reply
+    pub done : OnTicket reply (λ ticket. Starts old new actor node first last) (new ≡ old)
+    pub few : (number : ℕ) → counts new number ≤ counts old number + 768
+    pub ticket : IfTicket reply (IsTicketOf number_of data_of old (run_at old node first last))
+
+  pub record IsRaise (old : Whole) (actor : ℕ) (reply : Reply B) (new : Whole) : Type 0 where
+    pub answer : reply ≢ NoMemory → reply ≡ raise_answer old actor
+    pub memory : reply ≡ NoMemory → MayRaise old actor
+    pub done : reply ≡ Done → new ≡ root_raised old actor
+    pub refused : reply ≢ Done → new ≡ old
+
+  pub record IsSplit (old : Whole) (actor parent child : ℕ) (key : List ℕ) (reply : Reply B) (new : Whole) : Type 0 where
+    pub answer : reply ≢ NoMemory → reply ≡ split_answer old actor parent child key
+    pub memory : reply ≡ NoMemory → MaySplit old actor parent child key
+    pub done : (at : ℕ) → splits.pivot_to (node_at old.nodes parent).pivots child ≡ Some at → reply ≡ Done → HasSplit old new parent at child key
+    pub marks : reply ≡ Done → ShareBundles old new child
+    pub few : (number : ℕ) → counts new number ≤ counts old number + 768
+    pub refused : reply ≢ Done → new ≡ old
+
   pub record IsSurvey (old : Whole) (actor node : ℕ) (reply : Reply B) (new : Whole) : Type 0 where
     pub unknown : length old.nodes ≤ node → reply ≡ NoNode (length old.nodes)
     pub answer : node < length old.nodes → OnView reply (λ view. Unit {0}) (reply ≡ NoMemory)
@@ -100,6 +132,10 @@ module _ {B : Type 0} where
   IsStep number_of data_of rule old actor Grant reply new = IsGrant old actor reply new
   IsStep number_of data_of rule old actor (Publish branch) reply new = IsPublication (data_of branch.value) old actor (number_of branch.value) reply new
   IsStep number_of data_of rule old actor Incorporate reply new = IsIncorporation old actor reply new
+  IsStep number_of data_of rule old actor (Flush parent child) reply new = IsFlush old actor parent child reply new
+  IsStep number_of data_of rule old actor (Start node first last) reply new = IsStart number_of data_of old actor node first last reply new
+  IsStep number_of data_of rule old actor Raise reply new = IsRaise old actor reply new
+  IsStep number_of data_of rule old actor (Split parent child key) reply new = IsSplit old actor parent child key reply new
   IsStep number_of data_of rule old actor (Survey node) reply new = IsSurvey old actor node reply new
   IsStep number_of data_of rule old actor Abandon reply new = (reply ≡ Done) × HasAbandoned old new actor
   IsStep number_of data_of rule old actor Retire reply new = (reply ≡ retire_answer old actor) × (new ≡ after_retire old actor)

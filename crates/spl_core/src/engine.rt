@@ -1,22 +1,15 @@
-ghost use Rattle.std.specs.Prelude.{◌≡◌, ◌≢◌, ℕ, ◌+◌, ◌<◌, ◌≤◌, ◌^◌, ◌++◌, List, [], true, IfOk};
-ghost use Rattle.spl_base.specs.declared.TheConstants.{ACTORS};
-ghost use Rattle.spl_extent.specs.declared.pool.TheConstants.{EXTENTS};
-ghost use Rattle.spl_message.specs.History.{History};
-ghost use Rattle.spl_message.specs.Rule.{Rule};
-ghost use Rattle.spl_state.specs.Frame.{refused};
-ghost use Rattle.spl_state.specs.Sight.{KeepsSight};
-ghost use Rattle.spl_state.specs.Sound.{AreDrafts, IsEmpty, IsSound};
-ghost use Rattle.spl_state.specs.View.{branch_data};
-ghost use Rattle.spl_core.specs.Standing.{StandsFor, Knows, called};
-ghost use Rattle.spl_core.specs.Steps.{IsStep};
+ghost use Rattle.spl_core.specs.Counting.{AreCounted};
 
 use crate::step::Step;
 use spl_abandon::abandon;
 use spl_base::{ACTORS, NoMemory};
+use spl_compact::start;
 use spl_descent::{begin, end, move_down};
 use spl_extent::EXTENTS;
+use spl_flush::flush;
 use spl_message::{Content, MergeLaw};
 use spl_pack::{grant, incorporate, pick_frozen, publish};
+use spl_split::{raise, split};
 use spl_state::{Parts, Reply};
 use spl_steps::{claim, lock, put, retire, rotate, unlock};
 use spl_survey::survey;
@@ -28,9 +21,22 @@ pub struct Core<B: Content, L: MergeLaw> {
     parts: Parts<B>,
     law: L,
     alloc: Global,
+    ghost counted: { AreCounted parts },
 }
 
 impl<B: Content, L: MergeLaw> Core<B, L> {
+    ghost use Rattle.std.specs.Prelude.{◌≡◌, ◌≢◌, ℕ, ◌+◌, ◌<◌, ◌≤◌, ◌^◌, ◌++◌, List, [], true, IfOk};
+    ghost use Rattle.spl_base.specs.declared.TheConstants.{ACTORS};
+    ghost use Rattle.spl_extent.specs.declared.pool.TheConstants.{EXTENTS};
+    ghost use Rattle.spl_message.specs.History.{History};
+    ghost use Rattle.spl_message.specs.Rule.{Rule};
+    ghost use Rattle.spl_state.specs.Frame.{refused};
+    ghost use Rattle.spl_state.specs.Sight.{KeepsSight};
+    ghost use Rattle.spl_state.specs.Sound.{AreDrafts, IsEmpty, IsSound};
+    ghost use Rattle.spl_state.specs.View.{branch_data};
+    ghost use Rattle.spl_core.specs.Standing.{StandsFor, Knows, called};
+    ghost use Rattle.spl_core.specs.Steps.{IsStep};
+
     /// A core in which no call was made: every extent is free, and nobody has anything.
     pub fn new(alloc: Global, extents: u32, callers: u32, law: L) -> Result<Core<B, L>, NoMemory>
         requires extents { extents ≤ EXTENTS }
@@ -84,6 +90,14 @@ impl<B: Content, L: MergeLaw> Core<B, L> {
             Step::Grant => grant(&mut self.parts, actor),
             Step::Publish { branch } => publish(&mut self.parts, actor, branch),
             Step::Incorporate => incorporate(&mut self.parts, actor),
+            Step::Flush { parent, child } => flush(&mut self.parts, actor, parent, child),
+            Step::Start { node, first, last } => {
+                start(self.alloc, &mut self.parts, actor, node, first, last)
+            }
+            Step::Raise => raise(self.alloc, &mut self.parts, actor),
+            Step::Split { parent, child, key } => {
+                split(self.alloc, &mut self.parts, actor, parent, child, &key)
+            }
             Step::Survey { node } => survey(self.alloc, &mut self.parts, actor, node),
             Step::Abandon => abandon(&mut self.parts, actor),
             Step::Retire => retire(&mut self.parts, actor),

@@ -28,6 +28,14 @@ pub enum Step<B: Content> {
     Publish { branch: Arc<B> },
     /// Hangs the published branch at the root, in the place of its memtable.
     Incorporate,
+    /// Passes on to the child what is live for it in the parent.
+    Flush { parent: u32, child: u32 },
+    /// Asks for the bundles of the node from `first` up to `last`, to merge them.
+    Start { node: u32, first: u64, last: u64 },
+    /// Raises the root: the trunk is one higher.
+    Raise,
+    /// Splits the child in two at the key.
+    Split { parent: u32, child: u32, key: Key },
     /// Asks what the node holds.
     Survey { node: u32 },
     /// Gives back all that the actor has.

@@ -10,7 +10,7 @@ use Rattle.spl_bundle.proofs.Live.{live_below, live_more, live_all, live_none, j
 use Rattle.spl_refs.specs.Refs.{Published, held_at, count_at, branch_at, CountsAt}
 use Rattle.spl_trunk.specs.Tree.{times}
 use Rattle.spl_trunk.proofs.Counts.{times-append, times_itself}
-use Rattle.spl_split.specs.Naming.{AreNamed, AreFew, HaveRoom, NamedMore}
+use Rattle.spl_split.specs.Naming.{AreNamed, HaveRoom, NamedMore}
 
 apart_once : (n number : ℕ) → n ≢ number → times n (number ∷ []) ≡ 0
 apart_once n number apart = grind (arith, nat_tests)
@@ -51,6 +51,14 @@ length-joined_within (bundle ∷ bundles) all =
     let first : length bundle.branches ≤ 32 = all 0 bundle (omega arith) in
     let rest = length-joined_within bundles (λ k d within. all (suc k) d (omega (arith, within))) in
     let long = length-append bundle.branches (joined bundles) in
+    omega arith
+
+-- a node has at most 24 bundles of at most 32 branches
+pub times_within : (n : ℕ) (queue : Numbered) → IsWithinLimits queue → times n (names queue) ≤ 768
+times_within n queue within =
+    let long = length-joined_within queue.bundles within.branches in
+    let lists = within.lists in
+    let short = times_short n (names queue) in
     omega arith
 
 -- one bundle after another
@@ -145,23 +153,6 @@ module _ {B : Type 0} where
   named_all old new list k past named = subst (λ (xs : List ℕ). NamedMore old new xs)
       (take_all k list past) named
 
-  pub few_next : (refs : Published B) (list : List ℕ) (k : ℕ) → k < length list
-      → count_at refs (get_or list k 0) < 2 ^ 62 → AreFew refs (take k list) → AreFew refs (take (k + 1) list)
-  few_next refs list k within few all n some =
-      let x = get_or list k 0 in
-      let more = ap (times n) (take_more list k 0 within) ∙ times-append n (take k list) (x ∷ []) in
-      elim (cases_eq n x) [
-        | inl same ↦ subst (λ (m : ℕ). count_at refs m < 2 ^ 62) (sym same) few
-        | inr apart ↦ let none = apart_once n x apart in all n (omega arith)
-      ]
-
-  pub few_none : (refs : Published B) → AreFew refs []
-  few_none refs n some = absurd (omega arith)
-
-  pub few_all : (refs : Published B) (list : List ℕ) (k : ℕ) → length list ≤ k → AreFew refs (take k list)
-      → AreFew refs list
-  few_all refs list k past few = subst (λ (xs : List ℕ). AreFew refs xs) (take_all k list past) few
-
   module _ (queue : Numbered) (number : ℕ) (above : queue.first ≤ number)
       (below : number < next_of queue) where
     pub list_named : (old mid : Published B) → AreNamed old (names queue)
@@ -190,28 +181,11 @@ module _ {B : Type 0} where
       branches = λ n. more.branches n ∙ named.branches n;
     }
 
-    pub few_list : (refs : Published B) → AreFew refs (front queue number)
-        → AreFew refs (list queue number above below) → AreFew refs (front queue (number + 1))
-    few_list refs first second n some =
-        let both = ap (times n) (front_more queue number above below)
-        ∙ times-append n (front queue number) (list queue number above below) in
-        by (times n (front queue number)) refl both
-      where
-        by : (count : ℕ) → times n (front queue number) ≡ count
-            → times n (front queue (number + 1)) ≡ times n (front queue number) + times n
-            (list queue number above below) → count_at refs n < 2 ^ 62
-        by zero none both = second n (omega arith)
-        by (suc count) is both = first n (omega arith)
-
   module _ (queue : Numbered) where
     -- bundles have few branches, so what is named less often than the limit has room for all of their names
-    pub few_have_room : IsWithinLimits queue → (refs : Published B) (number : ℕ) → next_of queue ≤ number
-        → AreFew refs (front queue number) → HaveRoom refs (names queue)
-    few_have_room limits refs number past few n some =
-        let all : AreFew refs (names queue) = subst (λ (xs : List ℕ). AreFew refs xs)
-        (front_all queue number past) few in
-        let below = all n some in
-        let short = times_short n (names queue) in
-        let long = length-joined_within queue.bundles limits.branches in
-        let lists = limits.lists in
+    pub few_have_room : IsWithinLimits queue → (refs : Published B) → ((n : ℕ) → count_at refs n < 2 ^ 62)
+        → HaveRoom refs (names queue)
+    few_have_room limits refs few n some =
+        let below = few n in
+        let short = times_within n queue limits in
         omega arith

@@ -8,10 +8,6 @@ module _ {B : Type 0} where
   abbrev pub AreNamed : Published B → List ℕ → Type 0
   AreNamed refs list = (number : ℕ) → 0 < times number list → IsSome (branch_at refs number)
 
-  -- no branch of the list is named very often
-  abbrev pub AreFew : Published B → List ℕ → Type 0
-  AreFew refs list = (number : ℕ) → 0 < times number list → count_at refs number < 2 ^ 62
-
   -- the count of each branch of the list has room for the names that the list gives
   abbrev pub HaveRoom : Published B → List ℕ → Type 0
   HaveRoom refs list = (number : ℕ) → 0 < times number list → count_at refs number + times number list ≤ 2 ^

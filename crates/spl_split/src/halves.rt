@@ -1,5 +1,5 @@
 //! The step that splits a node in two.
-ghost use Rattle.std.specs.Prelude.{◌≡◌, ◌≢◌, ℕ, ◌<◌, ◌^◌, true, Some, length, drop, OnOk, OnErr};
+ghost use Rattle.std.specs.Prelude.{◌≡◌, ◌≢◌, ℕ, ◌<◌, ◌≤◌, ◌+◌, ◌^◌, true, Some, length, drop, OnOk, OnErr};
 ghost use Rattle.std.specs.List.{list_any};
 ghost use Rattle.spl_base.specs.declared.TheConstants.{ACTORS};
 ghost use Rattle.spl_holds.specs.Grip.{is_write};
@@ -12,6 +12,7 @@ ghost use Rattle.spl_state.specs.Bounds.{AreBelow};
 ghost use Rattle.spl_state.specs.Frame.{IsFramed};
 ghost use Rattle.spl_state.specs.Sight.{is_inside};
 ghost use Rattle.spl_state.specs.Sound.{AreDrafts};
+ghost use Rattle.spl_state.specs.Whole.{counts};
 ghost use Rattle.spl_split.specs.Splitting.{is_at, is_split_key, pivot_to, split_answer, CanDivide, MaySplit, HasSplit, ShareBundles};
 
 use crate::names::name_again;
@@ -41,6 +42,7 @@ pub fn split<B: Content>(
     ensures done { (at : ℕ) → pivot_to (node_at parts.old.nodes parent).pivots child ≡ Some at
         → result ≡ Reply.Done → HasSplit parts.old parts.new parent at child key.now }
     ensures marks { result ≡ Reply.Done → ShareBundles parts.old parts.new child }
+    ensures few { (number : ℕ) → counts parts.new number ≤ counts parts.old number + 768 }
     ensures refused { result ≢ Reply.Done → parts.new ≡ parts.old }
     ensures counters { parts.new.counters ≡ parts.old.counters }
     ensures framed { (rule : Rule) → (B.TELLS ≡ true → AreDrafts rule parts.old)

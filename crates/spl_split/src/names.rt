@@ -1,7 +1,8 @@
 //! The names that a new node gives to the branches of its bundles.
-ghost use Rattle.std.specs.Prelude.{◌≡◌, true};
+ghost use Rattle.std.specs.Prelude.{ℕ, ◌<◌, ◌≤◌, ◌^◌};
 ghost use Rattle.spl_bundle.specs.Numbered.{names};
 ghost use Rattle.spl_refs.specs.Refs.{count_at};
+ghost use Rattle.spl_trunk.specs.Tree.{times};
 ghost use Rattle.spl_split.specs.Naming.{AreNamed, HaveRoom, NamedMore};
 
 use spl_bundle::Bundles;

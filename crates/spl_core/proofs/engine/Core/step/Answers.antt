@@ -7,7 +7,8 @@ use Rattle.spl_state.specs.Whole.{Whole}
 use Rattle.spl_core.specs.declared.step.Step.{Step}
 use Rattle.spl_pack.specs.Publishing.{AsksFor}
 use Rattle.spl_core.specs.Standing.{StandsFor, Knows, called}
-use Rattle.spl_core.specs.Steps.{IsStep, IsPut, IsPick}
+use Rattle.spl_core.specs.Steps.{IsStep, IsPut, IsPick, IsGrant, IsIncorporation, IsSplit}
+use Rattle.spl_core.proofs.Counts.{more_counted, pick_few, grant_few, incorporate_few, retire_few, split_few}
 use Rattle.spl_core.proofs.Standings.{others_framed, others_all, stands_framed, stands_put, stands_begin}
 use Rattle.spl_core.proofs.engine.Core.step.Goals as goal
 
@@ -174,3 +175,79 @@ returns-in-Survey-clause-others g c = others_framed (g.L.MergeLaw.rule c.args.se
 
 pub returns-in-Survey-clause-counted : goal.returns-in-Survey-clause-counted
 returns-in-Survey-clause-counted g c = ap (λ (n : Counters). n.steps) c.survey.ensures.counters ∙ ap (λ (w : Whole). w.counters.steps) c.count.ensures.counted
+
+pub invariant_of-self-in-PickFrozen : goal.invariant_of-self-in-PickFrozen
+invariant_of-self-in-PickFrozen g c =
+    let pick : IsPick c.count.new.self c.args.actor c.pick_frozen.result c.pick_frozen.new.parts = record {
+      answer = c.pick_frozen.ensures.answer;
+      memory = c.pick_frozen.ensures.memory;
+      done = c.pick_frozen.ensures.done;
+      refused = c.pick_frozen.ensures.refused;
+    } in
+    record { counted = more_counted c.args.self.now.parts c.count.new.self c.pick_frozen.new.parts c.args.self.now.counted c.count.ensures.counted (pick_few c.count.new.self c.pick_frozen.new.parts c.args.actor c.pick_frozen.result pick) (c.pick_frozen.ensures.steps ∙ ap (λ (w : Whole). w.counters.steps) c.count.ensures.counted) }
+
+pub invariant_of-self-in-Grant : goal.invariant_of-self-in-Grant
+invariant_of-self-in-Grant g c =
+    let grant : IsGrant c.count.new.self c.args.actor c.grant.result c.grant.new.parts = record {
+      answer = c.grant.ensures.answer;
+      done = c.grant.ensures.done;
+      refused = c.grant.ensures.refused;
+    } in
+    record { counted = more_counted c.args.self.now.parts c.count.new.self c.grant.new.parts c.args.self.now.counted c.count.ensures.counted (grant_few c.count.new.self c.grant.new.parts c.args.actor c.grant.result grant) (c.grant.ensures.steps ∙ ap (λ (w : Whole). w.counters.steps) c.count.ensures.counted) }
+
+pub invariant_of-self-in-Incorporate : goal.invariant_of-self-in-Incorporate
+invariant_of-self-in-Incorporate g c =
+    let hung : IsIncorporation c.count.new.self c.args.actor c.incorporate.result c.incorporate.new.parts = record {
+      answer = c.incorporate.ensures.answer;
+      done = λ done packed ready. c.incorporate.ensures.done packed ready done;
+      refused = c.incorporate.ensures.refused;
+    } in
+    record { counted = more_counted c.args.self.now.parts c.count.new.self c.incorporate.new.parts c.args.self.now.counted c.count.ensures.counted (incorporate_few c.count.new.self c.incorporate.new.parts c.args.actor c.incorporate.result hung) (c.incorporate.ensures.steps ∙ ap (λ (w : Whole). w.counters.steps) c.count.ensures.counted) }
+
+pub invariant_of-self-in-Retire : goal.invariant_of-self-in-Retire
+invariant_of-self-in-Retire g c =
+    record { counted = more_counted c.args.self.now.parts c.count.new.self c.retire.new.parts c.args.self.now.counted c.count.ensures.counted (retire_few {g.row.B.Denot} c.count.new.self c.retire.new.parts c.args.actor c.retire.ensures.state) (c.retire.ensures.steps ∙ ap (λ (w : Whole). w.counters.steps) c.count.ensures.counted) }
+
+pub returns-in-Flush-clause-stands : goal.returns-in-Flush-clause-stands
+returns-in-Flush-clause-stands g c = λ history stands.
+    let here = stands_framed (g.L.MergeLaw.rule c.args.self.now.law) _ _ _ c.flush.new.parts c.args.actor c.count.ensures.counted (c.flush.ensures.framed (g.L.MergeLaw.rule c.args.self.now.law)) (ap (λ (n : Counters). n.places) c.flush.ensures.counters) history stands in
+    subst (λ (s : Step g.row.B.Denot). StandsFor (g.L.MergeLaw.rule c.args.self.now.law) g.B.Content.TELLS c.flush.new.parts (history ++ called c.args.actor s c.flush.result)) (sym c.in-Flush.is) here
+
+pub returns-in-Flush-clause-others : goal.returns-in-Flush-clause-others
+returns-in-Flush-clause-others g c = others_framed (g.L.MergeLaw.rule c.args.self.now.law) _ _ _ c.flush.new.parts c.args.actor c.count.ensures.counted (c.flush.ensures.framed (g.L.MergeLaw.rule c.args.self.now.law))
+
+pub returns-in-Start-clause-stands : goal.returns-in-Start-clause-stands
+returns-in-Start-clause-stands g c = λ history stands.
+    let here = stands_framed (g.L.MergeLaw.rule c.args.self.now.law) _ _ _ c.start.new.parts c.args.actor c.count.ensures.counted (c.start.ensures.framed (g.L.MergeLaw.rule c.args.self.now.law)) c.start.ensures.places history stands in
+    subst (λ (s : Step g.row.B.Denot). StandsFor (g.L.MergeLaw.rule c.args.self.now.law) g.B.Content.TELLS c.start.new.parts (history ++ called c.args.actor s c.start.result)) (sym c.in-Start.is) here
+
+pub returns-in-Start-clause-others : goal.returns-in-Start-clause-others
+returns-in-Start-clause-others g c = others_framed (g.L.MergeLaw.rule c.args.self.now.law) _ _ _ c.start.new.parts c.args.actor c.count.ensures.counted (c.start.ensures.framed (g.L.MergeLaw.rule c.args.self.now.law))
+
+pub returns-in-Raise-clause-stands : goal.returns-in-Raise-clause-stands
+returns-in-Raise-clause-stands g c = λ history stands.
+    let here = stands_framed (g.L.MergeLaw.rule c.args.self.now.law) _ _ _ c.raise.new.parts c.args.actor c.count.ensures.counted (c.raise.ensures.framed (g.L.MergeLaw.rule c.args.self.now.law)) (ap (λ (n : Counters). n.places) c.raise.ensures.counters) history stands in
+    subst (λ (s : Step g.row.B.Denot). StandsFor (g.L.MergeLaw.rule c.args.self.now.law) g.B.Content.TELLS c.raise.new.parts (history ++ called c.args.actor s c.raise.result)) (sym c.in-Raise.is) here
+
+pub returns-in-Raise-clause-others : goal.returns-in-Raise-clause-others
+returns-in-Raise-clause-others g c = others_framed (g.L.MergeLaw.rule c.args.self.now.law) _ _ _ c.raise.new.parts c.args.actor c.count.ensures.counted (c.raise.ensures.framed (g.L.MergeLaw.rule c.args.self.now.law))
+
+pub returns-in-Split-clause-stands : goal.returns-in-Split-clause-stands
+returns-in-Split-clause-stands g c = λ history stands.
+    let here = stands_framed (g.L.MergeLaw.rule c.args.self.now.law) _ _ _ c.split.new.parts c.args.actor c.count.ensures.counted (c.split.ensures.framed (g.L.MergeLaw.rule c.args.self.now.law)) (ap (λ (n : Counters). n.places) c.split.ensures.counters) history stands in
+    subst (λ (s : Step g.row.B.Denot). StandsFor (g.L.MergeLaw.rule c.args.self.now.law) g.B.Content.TELLS c.split.new.parts (history ++ called c.args.actor s c.split.result)) (sym c.in-Split.is) here
+
+pub returns-in-Split-clause-others : goal.returns-in-Split-clause-others
+returns-in-Split-clause-others g c = others_framed (g.L.MergeLaw.rule c.args.self.now.law) _ _ _ c.split.new.parts c.args.actor c.count.ensures.counted (c.split.ensures.framed (g.L.MergeLaw.rule c.args.self.now.law))
+
+pub invariant_of-self-in-Split : goal.invariant_of-self-in-Split
+invariant_of-self-in-Split g c =
+    let split : IsSplit c.count.new.self c.args.actor c.in-Split.parent c.in-Split.child c.in-Split.key c.split.result c.split.new.parts = record {
+      answer = c.split.ensures.answer;
+      memory = c.split.ensures.memory;
+      done = c.split.ensures.done;
+      marks = c.split.ensures.marks;
+      few = c.split.ensures.few;
+      refused = c.split.ensures.refused;
+    } in
+    record { counted = more_counted c.args.self.now.parts c.count.new.self c.split.new.parts c.args.self.now.counted c.count.ensures.counted (split_few c.count.new.self c.split.new.parts c.args.actor c.in-Split.parent c.in-Split.child c.in-Split.key c.split.result split) (ap (λ (n : Counters). n.steps) c.split.ensures.counters ∙ ap (λ (w : Whole). w.counters.steps) c.count.ensures.counted) }
