@@ -206,7 +206,7 @@ invariant_of-self-in-Incorporate g c =
 
 pub invariant_of-self-in-Retire : goal.invariant_of-self-in-Retire
 invariant_of-self-in-Retire g c =
-    record { counted = more_counted c.args.self.now.parts c.count.new.self c.retire.new.parts c.args.self.now.counted c.count.ensures.counted (retire_few {g.row.B.Denot} c.count.new.self c.retire.new.parts c.args.actor c.retire.ensures.state) (c.retire.ensures.steps ∙ ap (λ (w : Whole). w.counters.steps) c.count.ensures.counted) }
+    record { counted = more_counted c.args.self.now.parts c.count.new.self c.retire.new.parts c.args.self.now.counted c.count.ensures.counted (retire_few c.count.new.self c.retire.new.parts c.args.actor c.retire.ensures.state) (c.retire.ensures.steps ∙ ap (λ (w : Whole). w.counters.steps) c.count.ensures.counted) }
 
 pub returns-in-Flush-clause-stands : goal.returns-in-Flush-clause-stands
 returns-in-Flush-clause-stands g c = λ history stands.
@@ -251,3 +251,16 @@ invariant_of-self-in-Split g c =
       refused = c.split.ensures.refused;
     } in
     record { counted = more_counted c.args.self.now.parts c.count.new.self c.split.new.parts c.args.self.now.counted c.count.ensures.counted (split_few c.count.new.self c.split.new.parts c.args.actor c.in-Split.parent c.in-Split.child c.in-Split.key c.split.result split) (ap (λ (n : Counters). n.steps) c.split.ensures.counters ∙ ap (λ (w : Whole). w.counters.steps) c.count.ensures.counted) }
+
+pub returns-in-Split-clause-step : goal.returns-in-Split-clause-step
+returns-in-Split-clause-step g c =
+    let split : IsSplit c.count.new.self c.args.actor c.in-Split.parent c.in-Split.child c.in-Split.key c.split.result c.split.new.parts = record {
+      answer = c.split.ensures.answer;
+      memory = c.split.ensures.memory;
+      done = c.split.ensures.done;
+      marks = c.split.ensures.marks;
+      few = c.split.ensures.few;
+      refused = c.split.ensures.refused;
+    } in
+    let counted = subst (λ (w : Whole). IsSplit w c.args.actor c.in-Split.parent c.in-Split.child c.in-Split.key c.split.result c.split.new.parts) c.count.ensures.counted split in
+    subst (λ (s : Step g.row.B.Denot). IsStep g.B.Content.number (branch_data g.B.Content.extents g.B.Content.entries g.B.Content.cuts g.B.Content.table) (g.L.MergeLaw.rule c.args.self.now.law) (refused c.args.self.now.parts) c.args.actor s c.split.result c.split.new.parts) (sym c.in-Split.is) counted
