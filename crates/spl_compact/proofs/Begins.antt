@@ -53,9 +53,9 @@ module _ {B : Type 0} where
   marked_none None none = refl
   marked_none (Some by) none = cc
 
-  only_then : (all : Bool) (refusal : Option (Reply B)) (gone : Reply B) → cond all refusal (Some gone) ≡ None → (all ≡ true) × (refusal ≡ None)
-  only_then true refusal gone none = (refl, none)
-  only_then false refusal gone none = cc
+  only_then : (all : Bool) (refusal : Option (Reply B)) (refused : Reply B) → cond all refusal (Some refused) ≡ None → (all ≡ true) × (refusal ≡ None)
+  only_then true refusal refused none = (refl, none)
+  only_then false refusal refused none = cc
 
   pub takes_of : (node : NodeData) (first last : ℕ) → refusal_at {B = B} node first last ≡ None → Takes node first last
   takes_of node first last none =
@@ -70,7 +70,7 @@ module _ {B : Type 0} where
         unmarked = marked_none (first_owner (run_below node.lists first (last + 1))) parts.1;
       }
 
-twice : {A : Type 0} (xs : List A) (i : ℕ) (a b : A) → set (set xs i a) i b ≡ set xs i b
+pub twice : {A : Type 0} (xs : List A) (i : ℕ) (a b : A) → set (set xs i a) i b ≡ set xs i b
 twice [] i a b = refl
 twice (x ∷ xs) zero a b = refl
 twice (x ∷ xs) (suc i) a b = ap (λ (rest : List _). x ∷ rest) (twice xs i a b)

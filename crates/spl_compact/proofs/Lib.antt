@@ -4,4 +4,12 @@ pub mod Inputs
 pub mod OneNode
 pub mod Starts
 pub mod Begins
+pub mod MergedRun
+pub mod Accounting
+pub mod Positions
+pub mod Trims
+pub mod Compacted
+pub mod Serves
+pub mod Told
+pub mod Installed
 pub mod Held

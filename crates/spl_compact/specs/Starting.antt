@@ -19,7 +19,7 @@ use Rattle.spl_state.specs.Reply.{state_of}
 use Rattle.spl_state.specs.Whole.{BranchData, Whole, branches, counts}
 use Rattle.spl_descent.specs.Sights.{AreBranches}
 
--- each branch can be named so often once more that a step never counts too far
+-- each count is so far below the end of its type that a step can raise it
 abbrev pub HasRoom : Whole → Type 0
 HasRoom whole = (number : ℕ) → counts whole number < 2 ^ 62
 
@@ -29,7 +29,8 @@ is_busy actor = is_some actor.descent || is_some actor.job
 
 -- there are bundles from `first` up to `last`, and all of them stand
 abbrev pub all_stand : Numbered → ℕ → ℕ → Bool
-all_stand queue first last = not (nat_lt last first) && (not (nat_lt first queue.first) && nat_lt last (next_of queue))
+all_stand queue first last =
+    not (nat_lt last first) && (not (nat_lt first queue.first) && nat_lt last (next_of queue))
 
 -- some of the bundles from `first` up to `last` are live for the pivot, and some are not
 abbrev pub crosses : ℕ → ℕ → Pivot → Bool
@@ -60,25 +61,28 @@ run_at whole node first last = record {
   inputs = branches_from (node_at whole.nodes node).lists first (last + 1);
 }
 
--- the actor's job is to merge the run into a branch with the next number, the run's bundles carry its mark, and it was
--- told of the node
+-- the actor's job is to merge the run into a branch with the next number, the run's bundles carry its mark, and
+-- it was told of the node
 abbrev pub started_with : Whole → Published BranchData → ℕ → ℕ → ℕ → ℕ → Whole
 started_with whole refs actor node first last = record whole {
   nodes = with_lists_at whole.nodes node (marked (node_at whole.nodes node).lists first last (Some actor));
   refs = refs;
-  actors = slice_set whole.actors actor (told_of (with_job (actor_in whole.actors actor) (Some (Merge whole.counters.branches (run_at whole node first last)))) node);
+  actors = slice_set whole.actors actor
+      (told_of (with_job (actor_in whole.actors actor) (Some (Merge whole.counters.branches (run_at whole node first last)))) node);
   counters = record whole.counters { branches = whole.counters.branches + 1 };
 }
 
 -- and each input is named once more, while the branches stay what they were
 pub record Starts (old new : Whole) (actor node first last : ℕ) : Type 0 where
   pub all : new ≡ started_with old new.refs actor node first last
-  pub counts : (number : ℕ) → counts new number ≡ counts old number + times number (run_at old node first last).inputs
+  pub counts : (number : ℕ)
+      → counts new number ≡ counts old number + times number (run_at old node first last).inputs
   pub same : (number : ℕ) → branches new number ≡ branches old number
 
 module _ {B : Type 0} where
   -- the run and the branch to be made of it, and the run's branches
-  pub record IsTicketOf (number_of : B → ℕ) (data_of : B → BranchData) (whole : Whole) (run : Run) (ticket : Ticket B) : Type 0 where
+  pub record IsTicketOf (number_of : B → ℕ) (data_of : B → BranchData) (whole : Whole) (run : Run)
+      (ticket : Ticket B) : Type 0 where
     pub node : ticket.node ≡ run.node
     pub first : ticket.first ≡ run.first
     pub last : ticket.last ≡ run.last
@@ -108,7 +112,8 @@ module _ {B : Type 0} where
   abbrev pub refusal_at : NodeData → ℕ → ℕ → Option (Reply B)
   refusal_at node first last =
       if all_stand node.lists first last
-      then unless_crossed (find (crosses first last) node.pivots) (unless_marked (first_owner (run_below node.lists first (last + 1))))
+      then unless_crossed (find (crosses first last) node.pivots)
+      (unless_marked (first_owner (run_below node.lists first (last + 1))))
       else Some (reply.Gone last node.lists.first)
 
   -- why an actor can't begin to merge them

@@ -19,8 +19,8 @@ use spl_message::Content;
 use spl_state::{Branches, Inputs, Job, Parts, Reply, Run, Ticket};
 use std::alloc::Global;
 
-/// Gives the actor the bundles of the node from `first` up to `last` to merge. They carry its mark until they are
-/// merged or the actor gives up, and their branches stay as long.
+/// Gives the actor the bundles of the node from `first` up to `last` to merge. They carry its mark until they
+/// are merged or the actor gives up, and their branches stay as long.
 pub fn start<B: Content>(
     alloc: Global,
     parts: &mut Parts<B>,
@@ -54,30 +54,28 @@ pub fn start<B: Content>(
     if let Some(refused) = refusal(found, first, last) {
         return refused;
     }
-    match take_run(alloc, parts, node, first, last) {
-        Ok(Taken { run, inputs }) => {
-            let number = parts.counters.branches;
-            let ticket = Ticket {
-                node,
-                first,
-                last,
-                generation: run.generation,
-                span: run.span,
-                bottom: run.bottom,
-                number,
-                inputs,
-            };
-            hold_all(&mut parts.refs, run.inputs.as_slice());
-            parts.trunk.set_ticket(node, first, last, Some(actor));
-            parts.counters.branches += 1;
-            parts
-                .actors
-                .set_job(actor, Some(Job::Merge { number, run }));
-            parts.actors.tell(actor, node);
-            Reply::Ticket(ticket)
-        }
-        Err(NoMemory) => Reply::NoMemory,
-    }
+    let Ok(Taken { run, inputs }) = take_run(alloc, parts, node, first, last) else {
+        return Reply::NoMemory;
+    };
+    let number = parts.counters.branches;
+    let ticket = Ticket {
+        node,
+        first,
+        last,
+        generation: run.generation,
+        span: run.span,
+        bottom: run.bottom,
+        number,
+        inputs,
+    };
+    hold_all(&mut parts.refs, run.inputs.as_slice());
+    parts.trunk.set_ticket(node, first, last, Some(actor));
+    parts.counters.branches += 1;
+    parts
+        .actors
+        .set_job(actor, Some(Job::Merge { number, run }));
+    parts.actors.tell(actor, node);
+    Reply::Ticket(ticket)
 }
 
 /// A run that is about to be merged, and its branches.
@@ -101,7 +99,8 @@ fn take_run<B: Content>(
     requires made { last < next_of (node_at parts.now.nodes node).lists }
     ensures run { IfOk result (λ taken. taken.run ≡ run_at parts.now node first last) }
     ensures few { IfOk result (λ taken. length taken.run.inputs ≤ 768) }
-    ensures inputs { IfOk result (λ taken. AreBranches B.number (branch_data B.extents B.entries B.cuts B.table)
+    ensures inputs { IfOk result (λ taken. AreBranches B.number
+        (branch_data B.extents B.entries B.cuts B.table)
         (branches parts.now) (run_at parts.now node first last).inputs taken.inputs) }
 {
     let found = parts.trunk.node(node).unwrap();

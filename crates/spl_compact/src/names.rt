@@ -53,7 +53,8 @@ pub(crate) fn share<B: Content>(
 pub(crate) fn hold_all<B: Content>(refs: &mut Refs<B>, numbers: &[u64])
     requires there { All (λ number. IsSome (branch_at refs.old number)) numbers.now }
     requires limit { (number : ℕ) → count_at refs.old number + length numbers.now < 2 ^ 63 }
-    ensures counts { (number : ℕ) → count_at refs.new number ≡ count_at refs.old number + times number numbers.now }
+    ensures counts { (number : ℕ)
+        → count_at refs.new number ≡ count_at refs.old number + times number numbers.now }
     ensures branches { (number : ℕ) → branch_at refs.new number ≡ branch_at refs.old number }
 {
     for number in numbers {

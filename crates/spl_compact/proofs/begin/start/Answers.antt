@@ -79,18 +79,18 @@ leaves_it g c =
 pub invariant_of-parts : goal.invariant_of-parts
 invariant_of-parts g c = (leaves_it g (goal.at.invariant_of-parts g c).After-tell).sound
 
-pub returns-in-Ok-clause-done : goal.returns-in-Ok-clause-done
-returns-in-Ok-clause-done g c =
-    let here = (goal.at.returns-in-Ok-clause-done g c).After-tell in
+pub returns-clause-done : goal.returns-clause-done
+returns-clause-done g c =
+    let here = (goal.at.returns-clause-done g c).After-tell in
     subst (λ (w : Whole). Starts w (after g here) c.args.actor c.args.node c.args.first c.args.last) c.parts.view_is (leaves_it g here).done
 
-pub returns-in-Ok-clause-counts : goal.returns-in-Ok-clause-counts
-returns-in-Ok-clause-counts g c = λ number.
-    let here = (goal.at.returns-in-Ok-clause-counts g c).After-tell in
+pub returns-clause-counts : goal.returns-clause-counts
+returns-clause-counts g c = λ number.
+    let here = (goal.at.returns-clause-counts g c).After-tell in
     subst (λ (w : Whole). counts (after g here) number ≤ counts w number + 768) c.parts.view_is ((leaves_it g here).few number)
 
-pub returns-in-Ok-clause-framed : goal.returns-in-Ok-clause-framed
-returns-in-Ok-clause-framed g c = λ rule drafts.
-    let here = (goal.at.returns-in-Ok-clause-framed g c).After-tell in
+pub returns-clause-framed : goal.returns-clause-framed
+returns-clause-framed g c = λ rule drafts.
+    let here = (goal.at.returns-clause-framed g c).After-tell in
     subst (λ (w : Whole). IsFramed rule g.B.Content.TELLS w (after g here) c.args.actor) c.parts.view_is
     ((leaves_it g here).framed rule g.B.Content.TELLS (λ told. subst (λ (w : Whole). AreDrafts rule w) (sym c.parts.view_is) (drafts told)))
