@@ -107,6 +107,11 @@ pub record Installs (old new : Whole) (actor node : ℕ) (outcome : Outcome) : T
   pub tables : new.tables ≡ old.tables
   pub counters : new.counters ≡ old.counters
 
+-- where the actor is ready and the node carries its marks, its outcome is installed there
+abbrev pub IsServed : Whole → ℕ → ℕ → Bool → Whole → Type 0
+IsServed old actor node output new = (outcome : Outcome) → ready_in old actor node output ≡ Some outcome
+    → carries actor (node_at old.nodes node) ≡ true → Installs old new actor node outcome
+
 -- without an output nothing is left of the run
 abbrev pub MergesToNothing : Rule → Whole → ℕ → Type 0
 MergesToNothing rule whole actor = (number : ℕ) (run : Run)

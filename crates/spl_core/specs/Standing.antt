@@ -1,18 +1,19 @@
 -- What history a core stands for.
-use Rattle.std.specs.Prelude.{◌≡◌, ℕ, Bool, true, List, [], ◌∷◌, length}
+use Rattle.std.specs.Prelude.{◌≡◌, ℕ, Bool, true, false, List, [], ◌∷◌, length}
 use Rattle.spl_message.specs.declared.call.Call.TheVariants as call
 use Rattle.spl_message.specs.declared.message.Message.{Message}
 use Rattle.spl_message.specs.declared.span.Span.{Span}
 use Rattle.spl_message.specs.History.{Event, History, cell_at}
 use Rattle.spl_message.specs.Rule.{Rule}
 use Rattle.spl_message.specs.Table.{Table}
+use Rattle.spl_compact.specs.Installing.{MergesToNothing}
 use Rattle.spl_pack.specs.Publishing.{AsksFor}
 use Rattle.spl_state.specs.declared.reply.Reply.{Reply}
 use Rattle.spl_state.specs.declared.reply.Reply.TheVariants.{Placed, Sight}
 use Rattle.spl_state.specs.Sound.{AreDrafts, meaning}
 use Rattle.spl_state.specs.Whole.{Whole}
 use Rattle.spl_core.specs.declared.step.Step.{Step}
-use Rattle.spl_core.specs.declared.step.Step.TheVariants.{Put, Rotate, Begin, MoveDown, End, Claim, Lock, Unlock, PickFrozen, Grant, Publish, Incorporate, Flush, Start, Raise, Split, Survey, Abandon, Retire}
+use Rattle.spl_core.specs.declared.step.Step.TheVariants.{Put, Rotate, Begin, MoveDown, End, Claim, Lock, Unlock, PickFrozen, Grant, Publish, Incorporate, Flush, Start, Install, Raise, Split, Survey, Abandon, Retire}
 
 -- The calls of the history have the places, and where devices tell their pages each key means what the history leaves of it, and
 -- what a job published is what the job asks for.
@@ -48,13 +49,15 @@ module _ {B : Type 0} where
   called actor Incorporate reply = []
   called actor (Flush parent child) reply = []
   called actor (Start node first last) reply = []
+  called actor (Install node output) reply = []
   called actor Raise reply = []
   called actor (Split parent child key) reply = []
   called actor (Survey node) reply = []
   called actor Abandon reply = []
   called actor Retire reply = []
 
-  -- what the actor knows that makes a step: the branch that it publishes has the table that its job asks for
+  -- what the actor knows that makes a step: the branch that it publishes has the table that its job asks for,
+  -- and where it has none nothing is left of what it merges
   abbrev pub Knows : (B → Table) → Rule → Whole → ℕ → Step B → Type 0
   Knows table_of rule whole actor (Put key message) = Unit {0}
   Knows table_of rule whole actor Rotate = Unit {0}
@@ -70,6 +73,7 @@ module _ {B : Type 0} where
   Knows table_of rule whole actor Incorporate = Unit {0}
   Knows table_of rule whole actor (Flush parent child) = Unit {0}
   Knows table_of rule whole actor (Start node first last) = Unit {0}
+  Knows table_of rule whole actor (Install node output) = output ≡ false → MergesToNothing rule whole actor
   Knows table_of rule whole actor Raise = Unit {0}
   Knows table_of rule whole actor (Split parent child key) = Unit {0}
   Knows table_of rule whole actor (Survey node) = Unit {0}

@@ -1,5 +1,5 @@
 -- What each step answers, and what it makes of the state.
-use Rattle.std.specs.Prelude.{◌≡◌, ◌≢◌, ℕ, ◌+◌, ◌<◌, ◌≤◌, ◌↔◌, ◌⊎◌, List, [], map, length, Some, IfSome}
+use Rattle.std.specs.Prelude.{◌≡◌, ◌≢◌, ℕ, ◌+◌, ◌<◌, ◌≤◌, ◌↔◌, ◌⊎◌, Bool, true, false, Option, List, [], map, length, Some, IfSome}
 use Rattle.spl_memtable.specs.Memtable.{IsFull, Puts}
 use Rattle.spl_message.specs.declared.message.Message.{Message}
 use Rattle.spl_message.specs.Rule.{Rule}
@@ -7,7 +7,7 @@ use Rattle.spl_message.specs.declared.span.Span.{Span}
 use Rattle.spl_message.specs.Table.{Table, key_count, part_of}
 use Rattle.spl_holds.specs.declared.grip.Grip.TheVariants as grip
 use Rattle.spl_state.specs.declared.reply.Reply.{Reply}
-use Rattle.spl_state.specs.declared.reply.Reply.TheVariants.{Done, Placed, Rotated, Picked, Granted, MemFull, NotFull, FrozenFull, Unfit, NoNode, NoMemory}
+use Rattle.spl_state.specs.declared.reply.Reply.TheVariants.{Done, Placed, Rotated, Picked, Granted, MemFull, NotFull, FrozenFull, Unfit, NoNode, Elsewhere, NoMemory}
 use Rattle.spl_tables.specs.Memtables.{first_unpicked, tables_of}
 use Rattle.spl_state.specs.Actor.{actor_in}
 use Rattle.spl_state.specs.Reply.{state_of}
@@ -18,6 +18,8 @@ use Rattle.spl_descent.specs.Sights.{IsSightOf, OnSight, IfSight, Answers}
 use Rattle.spl_trunk.specs.Trunk.{node_at}
 use Rattle.spl_flush.specs.Flushing.{flush_answer, pivot_to, IsFlushed}
 use Rattle.spl_compact.specs.Starting.{start_refusal, run_at, Starts, IsTicketOf, OnTicket, IfTicket, AnswersTicket}
+use Rattle.spl_compact.specs.Installing.{install_answer, carries, told_next, IsServed}
+use Rattle.spl_state.specs.declared.reply.ActorState.{ActorState}
 use Rattle.spl_split.specs.Raising.{raise_answer, MayRaise, root_raised}
 use Rattle.spl_split.specs.Splitting as splits
 use Rattle.spl_split.specs.Splitting.{split_answer, MaySplit, HasSplit, ShareBundles}
@@ -30,7 +32,7 @@ use Rattle.spl_steps.specs.Latching.{claim_answer, lock_answer, unlock_answer, g
 use Rattle.spl_steps.specs.Memory.{HasPut, has_rotated}
 use Rattle.spl_steps.specs.Retiring.{retire_answer, after_retire}
 use Rattle.spl_core.specs.declared.step.Step.{Step}
-use Rattle.spl_core.specs.declared.step.Step.TheVariants.{Put, Rotate, Begin, MoveDown, End, Claim, Lock, Unlock, PickFrozen, Grant, Publish, Incorporate, Flush, Start, Raise, Split, Survey, Abandon, Retire}
+use Rattle.spl_core.specs.declared.step.Step.TheVariants.{Put, Rotate, Begin, MoveDown, End, Claim, Lock, Unlock, PickFrozen, Grant, Publish, Incorporate, Flush, Start, Install, Raise, Split, Survey, Abandon, Retire}
 
 module _ {B : Type 0} where
   pub record IsPut (rule : Rule) (old : Whole) (key : List ℕ) (message : Message) (reply : Reply B) (new : Whole) : Type 0 where
@@ -98,6 +100,14 @@ module _ {B : Type 0} where
     pub few : (number : ℕ) → counts new number ≤ counts old number + 768
     pub ticket : IfTicket reply (IsTicketOf number_of data_of old (run_at old node first last))
 
+  pub record IsInstall (old : Whole) (actor node : ℕ) (output : Bool) (reply : Reply B) (new : Whole) : Type 0 where
+    pub answer : reply ≡ install_answer old actor node output
+    pub served : IsServed old actor node output new
+    pub elsewhere : (next : Option ℕ) → reply ≡ Elsewhere next → new ≡ told_next old actor next
+    pub refused : (state : ActorState) → reply ≡ Unfit state → new ≡ old
+    pub ended : reply ≡ Done → (number : ℕ) → carries actor (node_at new.nodes number) ≡ false
+    pub few : (number : ℕ) → counts new number ≤ counts old number + 1
+
   pub record IsRaise (old : Whole) (actor : ℕ) (reply : Reply B) (new : Whole) : Type 0 where
     pub answer : reply ≢ NoMemory → reply ≡ raise_answer old actor
     pub memory : reply ≡ NoMemory → MayRaise old actor
@@ -134,6 +144,7 @@ module _ {B : Type 0} where
   IsStep number_of data_of rule old actor Incorporate reply new = IsIncorporation old actor reply new
   IsStep number_of data_of rule old actor (Flush parent child) reply new = IsFlush old actor parent child reply new
   IsStep number_of data_of rule old actor (Start node first last) reply new = IsStart number_of data_of old actor node first last reply new
+  IsStep number_of data_of rule old actor (Install node output) reply new = IsInstall old actor node output reply new
   IsStep number_of data_of rule old actor Raise reply new = IsRaise old actor reply new
   IsStep number_of data_of rule old actor (Split parent child key) reply new = IsSplit old actor parent child key reply new
   IsStep number_of data_of rule old actor (Survey node) reply new = IsSurvey old actor node reply new

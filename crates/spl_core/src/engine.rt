@@ -3,7 +3,7 @@ ghost use Rattle.spl_core.specs.Counting.{AreCounted};
 use crate::step::Step;
 use spl_abandon::abandon;
 use spl_base::{ACTORS, NoMemory};
-use spl_compact::start;
+use spl_compact::{install, start};
 use spl_descent::{begin, end, move_down};
 use spl_extent::EXTENTS;
 use spl_flush::flush;
@@ -94,6 +94,7 @@ impl<B: Content, L: MergeLaw> Core<B, L> {
             Step::Start { node, first, last } => {
                 start(self.alloc, &mut self.parts, actor, node, first, last)
             }
+            Step::Install { node, output } => install(&mut self.parts, actor, node, output),
             Step::Raise => raise(self.alloc, &mut self.parts, actor),
             Step::Split { parent, child, key } => {
                 split(self.alloc, &mut self.parts, actor, parent, child, &key)

@@ -32,6 +32,8 @@ pub enum Step<B: Content> {
     Flush { parent: u32, child: u32 },
     /// Asks for the bundles of the node from `first` up to `last`, to merge them.
     Start { node: u32, first: u64, last: u64 },
+    /// Puts what was merged in the place of its run in the node. `output` says whether a branch was published.
+    Install { node: u32, output: bool },
     /// Raises the root: the trunk is one higher.
     Raise,
     /// Splits the child in two at the key.

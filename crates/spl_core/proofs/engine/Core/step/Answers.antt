@@ -5,6 +5,7 @@ use Rattle.spl_state.specs.Frame.{refused}
 use Rattle.spl_state.specs.View.{branch_data}
 use Rattle.spl_state.specs.Whole.{Whole}
 use Rattle.spl_core.specs.declared.step.Step.{Step}
+use Rattle.spl_compact.specs.Installing.{MergesToNothing}
 use Rattle.spl_pack.specs.Publishing.{AsksFor}
 use Rattle.spl_core.specs.Standing.{StandsFor, Knows, called}
 use Rattle.spl_core.specs.Steps.{IsStep, IsPut, IsPick, IsGrant, IsIncorporation, IsSplit}
@@ -264,3 +265,11 @@ returns-in-Split-clause-step g c =
     } in
     let counted = subst (λ (w : Whole). IsSplit w c.args.actor c.in-Split.parent c.in-Split.child c.in-Split.key c.split.result c.split.new.parts) c.count.ensures.counted split in
     subst (λ (s : Step g.row.B.Denot). IsStep g.B.Content.number (branch_data g.B.Content.extents g.B.Content.entries g.B.Content.cuts g.B.Content.table) (g.L.MergeLaw.rule c.args.self.now.law) (refused c.args.self.now.parts) c.args.actor s c.split.result c.split.new.parts) (sym c.in-Split.is) counted
+
+pub returns-in-Install-clause-stands : goal.returns-in-Install-clause-stands
+returns-in-Install-clause-stands g c = λ history stands.
+    let here = stands_framed (g.L.MergeLaw.rule c.args.self.now.law) _ _ _ c.install.new.parts c.args.actor c.count.ensures.counted (λ drafts. c.install.ensures.framed (g.L.MergeLaw.rule c.args.self.now.law) drafts (λ told none. subst (λ (w : Whole). MergesToNothing (g.L.MergeLaw.rule c.args.self.now.law) w c.args.actor) (sym c.count.ensures.counted) (subst (λ (s : Step g.row.B.Denot). Knows g.B.Content.table (g.L.MergeLaw.rule c.args.self.now.law) c.args.self.now.parts c.args.actor s) c.in-Install.is (c.requires.knows told) none))) c.install.ensures.places history stands in
+    subst (λ (s : Step g.row.B.Denot). StandsFor (g.L.MergeLaw.rule c.args.self.now.law) g.B.Content.TELLS c.install.new.parts (history ++ called c.args.actor s c.install.result)) (sym c.in-Install.is) here
+
+pub returns-in-Install-clause-others : goal.returns-in-Install-clause-others
+returns-in-Install-clause-others g c = others_framed (g.L.MergeLaw.rule c.args.self.now.law) _ _ _ c.install.new.parts c.args.actor c.count.ensures.counted (λ drafts. c.install.ensures.framed (g.L.MergeLaw.rule c.args.self.now.law) drafts (λ told none. subst (λ (w : Whole). MergesToNothing (g.L.MergeLaw.rule c.args.self.now.law) w c.args.actor) (sym c.count.ensures.counted) (subst (λ (s : Step g.row.B.Denot). Knows g.B.Content.table (g.L.MergeLaw.rule c.args.self.now.law) c.args.self.now.parts c.args.actor s) c.in-Install.is (c.requires.knows told) none)))
