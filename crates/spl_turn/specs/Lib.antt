@@ -1,0 +1,5 @@
+pub mod Meaning
+pub mod Rule
+pub mod Moves
+pub mod Seating
+pub mod Turning
