@@ -38,16 +38,16 @@ not_idle : Idle ≢ Holds
 not_idle e = cc
 
 module _ {V S R E F : Type 0} (m : Meaning V S R E F) where
-  abbrev K : Type 0
+  abbrev pub K : Type 0
   K = Known E F
 
-  abbrev G : Type 0
+  abbrev pub G : Type 0
   G = Guarded V S R
 
   abbrev St : Type 0
   St = State G K
 
-  abbrev M : Type 0
+  abbrev pub M : Type 0
   M = Me G K
 
   -- the record is shorter than 2^46 where a seat has turns left
@@ -70,7 +70,7 @@ module _ {V S R E F : Type 0} (m : Meaning V S R E F) where
   Goes s id me then n = (w : K) × (a : Act G) × Valid s.homes me.1 a × Kept m (stepped s 0 n id me.1 w a) × then (get_or s.words 0 0) (w, carried_after me.1 a)
 
   -- what a seat knows once it has the value
-  abbrev seated : K → List E → K
+  abbrev pub seated : K → List E → K
   seated v between = record v { seen = v.seen ++ between; stage = Holds }
 
   -- the front of a seat that is one seat
@@ -180,7 +180,7 @@ module _ {V S R E F : Type 0} (m : Meaning V S R E F) where
     spent = fits.spent;
   }
 
-  same_slot : (c : List (ℕ × G)) (g h : G) → c ≡ (0, g) ∷ [] → c ≡ (0, h) ∷ [] → g ≡ h
+  pub same_slot : (c : List (ℕ × G)) (g h : G) → c ≡ (0, g) ∷ [] → c ≡ (0, h) ∷ [] → g ≡ h
   same_slot c g h a b = let e : (0, g) ∷ [] ≡ (0, h) ∷ [] = sym a ∙ b in ap (λ l. (elim l as (λ _. G) [ [] ↦ g | x ∷ xs ↦ x.1 ])) e
 
   -- the seat gives the value back, and adds the entry of the step that it has made
@@ -255,4 +255,101 @@ module _ {V S R E F : Type 0} (m : Meaning V S R E F) where
           let noted' : Some may.last ≡ Some last = sym may.noted ∙ (ap (λ x. x.last) same ∙ noted) in
           ap₂ (λ x l. record v { seen = v.seen ++ entry_of m v.number x l ∷ []; turns = v.turns + 1; stage = Idle }) (ap (λ x. x.value) same) (some_is _ _ noted')),
         ),
+      )
+
+  -- the witness stays where one seat's view has seen the same
+  witness_set : (past : List E) (vs : List K) (id : ℕ) (v : K) (stage : Stage) → get_elem? vs id ≡ some v → Witness m past vs → Witness m past (set vs id (staged v stage))
+  witness_set past vs id v stage at x = dite (ℕ_discrete x.index id)
+      (λ same. let is : x.view ≡ v = at_once vs id x.view v (subst (λ i. get_elem? vs i ≡ some x.view) same x.there) at in record {
+        index = id;
+        view = staged v stage;
+        there = set_at vs id v (staged v stage) at;
+        unspent = subst (λ (u : K). 0 < u.seats) is x.unspent;
+        at = x.at;
+        among = subst (λ (u : K). Contains (sights u) x.at) is x.among;
+        whole = x.whole;
+      })
+      (λ other. record {
+        index = x.index;
+        view = x.view;
+        there = set_else vs id x.index (staged v stage) other ∙ x.there;
+        unspent = x.unspent;
+        at = x.at;
+        among = x.among;
+        whole = x.whole;
+      })
+
+  -- a seat goes to sleep or gets up, and the word that counts the sleepers goes to n
+  restaged : (s : St) (r : Kept m s) (id n : ℕ) (me : M) (stage : Stage) → get_elem? s.views id ≡ some me.0 → me.0.seats ≡ 1 → is_holding me.0.stage ≡ 0 → is_holding stage ≡ 0
+      → n + is_waiting me.0.stage ≡ total (λ (u : K). is_waiting u.stage) s.views + is_waiting stage → Kept m (stepped s 1 n id me.1 (staged me.0 stage) keeps)
+  restaged s r id n me stage at one old new word =
+      let v : K = me.0 in
+      let w : K = staged v stage in
+      let fits = r.each id v at in
+      let waits = total_set (λ (u : K). is_waiting u.stage) s.views id v w at in
+      let holds = total_set (λ (u : K). is_holding u.stage) s.views id v w at in
+      let seats = total_set (λ (u : K). u.seats) s.views id v w at in
+      let turns = total_set (λ (u : K). u.turns) s.views id v w at in
+      record {
+        past = r.past;
+        fixed = r.fixed;
+        made = r.made;
+        owner = r.owner;
+        out = r.out;
+        words = ap (λ ws. set ws 1 n) r.words ∙ ap (λ a. (2 * length r.past + r.out) ∷ a ∷ []) (omega (arith, waits));
+        holders = omega (arith, holds, r.holders);
+        one_holder = r.one_holder;
+        home = r.home;
+        few_made = r.few_made;
+        all_seats = omega (arith, seats, r.all_seats);
+        all_turns = omega (arith, turns, r.all_turns);
+        makers = r.makers;
+        each = each_set (Fits m r.past r.made r.fixed r.owner) s.views id w (λ j u _ there. r.each j u there) record {
+          fronts = fits.fronts;
+          few_turns = fits.few_turns;
+          is_first = fits.is_first;
+          same_fixed = fits.same_fixed;
+          holder = λ also. let b : is_holding stage ≡ 1 = ap is_holding also in absurd (omega arith);
+          spent = λ none. absurd (omega arith);
+        };
+        witness = witness_set r.past s.views id v stage at r.witness;
+      }
+
+  is_small : (stage : Stage) → is_waiting stage ≤ 1
+  is_small Idle = omega arith
+  is_small Waits = omega arith
+  is_small Holds = omega arith
+
+  asleep_is_seat : (past : List E) (made : ℕ) (fixed : F) (owner : ℕ → ℕ) (j : ℕ) (u : K) → Fits m past made fixed owner j u → is_waiting u.stage ≤ u.seats
+  asleep_is_seat past made fixed owner j u fits = dite (ℕ_discrete u.seats 0)
+      (λ none. let b : is_waiting u.stage ≡ 0 = ap is_waiting (fits.spent none) in omega arith)
+      (λ some_seat. let b = is_small u.stage in omega (arith, b))
+
+  pub lies : (slots id : ℕ) (me : M) → IsReady me → Allows (Kept m) slots id me 1 (λ n. (n + 1) % 2 ^ 64) (lain m (step slots 1 1 0 none) me)
+  lies slots id me ready s r wide at small =
+      let le = total_le (λ (u : K). is_waiting u.stage) (λ (u : K). u.seats) s.views (λ j u there. asleep_is_seat r.past r.made r.fixed r.owner j u (r.each j u there)) in
+      let word : get_or s.words 1 0 ≡ total (λ (u : K). is_waiting u.stage) s.views = ap (λ ws. get_or ws 1 0) r.words in
+      let idle : is_waiting me.0.stage ≡ 0 = ap is_waiting ready.idle in
+      let free : is_holding me.0.stage ≡ 0 = ap is_holding ready.idle in
+      (
+        staged me.0 Waits,
+        keeps,
+        tt,
+        restaged s r id ((get_or s.words 1 0 + 1) % 2 ^ 64) me Waits at ready.one_seat free refl (omega (arith, le, word, r.all_seats, r.few_made)),
+        refl,
+      )
+
+  pub rises : (slots id : ℕ) (me : M) → me.0.stage ≡ Waits → me.0.seats ≡ 1 → Allows (Kept m) slots id me 1 (λ n. (n + (2 ^ 64 - 1)) % 2 ^ 64) (risen m (step slots 1 1 0 none) me)
+  rises slots id me waits one s r wide at small =
+      let le = total_le (λ (u : K). is_waiting u.stage) (λ (u : K). u.seats) s.views (λ j u there. asleep_is_seat r.past r.made r.fixed r.owner j u (r.each j u there)) in
+      let part = total_part (λ (u : K). is_waiting u.stage) s.views id me.0 at in
+      let word : get_or s.words 1 0 ≡ total (λ (u : K). is_waiting u.stage) s.views = ap (λ ws. get_or ws 1 0) r.words in
+      let awake : is_waiting me.0.stage ≡ 1 = ap is_waiting waits in
+      let free : is_holding me.0.stage ≡ 0 = ap is_holding waits in
+      (
+        staged me.0 Idle,
+        keeps,
+        tt,
+        restaged s r id ((get_or s.words 1 0 + (2 ^ 64 - 1)) % 2 ^ 64) me Idle at one free refl (omega (arith, le, part, word, r.all_seats, r.few_made)),
+        refl,
       )

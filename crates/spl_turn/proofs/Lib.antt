@@ -1,3 +1,4 @@
 pub mod Totals
 pub mod Fronts
 pub mod Keeps
+pub mod Making
