@@ -44,7 +44,7 @@ module _ {V S R E F : Type 0} (m : Meaning V S R E F) where
   abbrev pub G : Type 0
   G = Guarded V S R
 
-  abbrev St : Type 0
+  abbrev pub St : Type 0
   St = State G K
 
   abbrev pub M : Type 0
@@ -58,7 +58,7 @@ module _ {V S R E F : Type 0} (m : Meaning V S R E F) where
       let made = r.few_made in let all = r.all_seats in let turns = r.all_turns in omega (arith, lt, scaled, made, all, turns)
 
   -- a table that a step leaves as it was
-  same_table : (s : St) (r : Kept m s) (id : ℕ) (v : K) (c : List (ℕ × G)) → get_elem? s.views id ≡ some v → Kept m (stepped s 0 (get_or s.words 0 0) id c v keeps)
+  pub same_table : (s : St) (r : Kept m s) (id : ℕ) (v : K) (c : List (ℕ × G)) → get_elem? s.views id ≡ some v → Kept m (stepped s 0 (get_or s.words 0 0) id c v keeps)
   same_table s r id v c at =
       let W : List ℕ → Type 0 = λ ws. set ws 0 (get_or ws 0 0) ≡ ws in
       let words : set s.words 0 (get_or s.words 0 0) ≡ s.words = subst W (sym r.words) refl in
@@ -74,11 +74,11 @@ module _ {V S R E F : Type 0} (m : Meaning V S R E F) where
   seated v between = record v { seen = v.seen ++ between; stage = Holds }
 
   -- the front of a seat that is one seat
-  front : (past : List E) (made : ℕ) (fixed : F) (owner : ℕ → ℕ) (j : ℕ) (v : K) → Fits m past made fixed owner j v → v.seats ≡ 1 → FitsSight m past made owner j (sight v.number v.seen)
+  pub front : (past : List E) (made : ℕ) (fixed : F) (owner : ℕ → ℕ) (j : ℕ) (v : K) → Fits m past made fixed owner j v → v.seats ≡ 1 → FitsSight m past made owner j (sight v.number v.seen)
   front past made fixed owner j v fits one = first_of (FitsSight m past made owner j) (sight v.number v.seen) v.joined (fits.fronts (omega arith))
 
   -- how the seat fits the rule once it has seen the whole record
-  fits_all : (past seen : List E) (made : ℕ) (fixed : F) (owner : ℕ → ℕ) (j turns : ℕ) (stage : Stage) (v : K) → v.seats ≡ 1 → v.joined ≡ [] → seen ≡ past → turns ≤ 2199023255552
+  pub fits_all : (past seen : List E) (made : ℕ) (fixed : F) (owner : ℕ → ℕ) (j turns : ℕ) (stage : Stage) (v : K) → v.seats ≡ 1 → v.joined ≡ [] → seen ≡ past → turns ≤ 2199023255552
       → owner v.number ≡ j → v.number < made → (0 < v.made → (j ≡ 0) × (v.made ≡ made)) → v.fixed ≡ Some fixed → Fits m past made fixed owner j record v { seen = seen; turns = turns; stage = stage }
   fits_all past seen made fixed owner j turns stage v one alone whole few owned below first same = record {
     fronts = λ _. All-cons (FitsSight m past made owner j) (sight v.number seen) v.joined

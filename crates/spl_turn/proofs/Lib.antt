@@ -2,3 +2,4 @@ pub mod Totals
 pub mod Fronts
 pub mod Keeps
 pub mod Making
+pub mod Gathering

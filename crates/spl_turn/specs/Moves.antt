@@ -84,6 +84,10 @@ module _ {V S R E F : Type 0} (m : Meaning V S R E F) where
   abbrev pub risen : At → Sat → ℕ → Sat → Type 0
   risen step me found after = after ≡ (staged me.0 Idle, me.1)
 
+-- a look tells the first seat that the next number has no entry
+abbrev pub looked : {V S R E F : Type 0} → Meaning V S R E F → Step (Guarded V S R) → Me (Guarded V S R) (Known E F) → ℕ → Me (Guarded V S R) (Known E F) → Type 0
+looked m step me found after = (after ≡ me) × (0 < me.0.made → 0 < me.0.seats → own m me.0.made me.0.seen ≡ [])
+
 -- the note of a step has the value before, the step and its reply
 abbrev pub IsNoted : {V S R : Type 0} → V → S → R → Option (Last V S R) → Type 0
 IsNoted {V} {S} {R} before step reply note =

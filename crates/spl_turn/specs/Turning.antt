@@ -29,6 +29,28 @@ module _ {V S R E F : Type 0} where
     pub fixed : fixed_of new ≡ fixed_of old
 
 module _ {V S R E F : Type 0} (m : Meaning V S R E F) where
+  -- the first seat, of a turn over the value
+  pub record Opens (value : V) (seat : Seat V S R E F) : Type 0 where
+    pub number : seat.number ≡ 0
+    pub turns : seat.turns ≡ 0
+    pub made : seat.made ≡ 1
+    pub seen : seen_by seat ≡ []
+    pub fixed : fixed_of seat ≡ Some (m.fixed value)
+
+  -- The other seat has seen what the first one has seen, and has no entry in it. The first one counts it.
+  pub record Splits (old new other : Seat V S R E F) : Type 0 where
+    pub same : IsSameSeat old new
+    pub seen : seen_by new ≡ seen_by old
+    pub turns : new.turns ≡ old.turns
+    pub made : new.made ≡ old.made + 1
+    pub other_number : other.number ≡ old.made
+    pub other_turn : turn_of other ≡ turn_of old
+    pub other_seen : seen_by other ≡ seen_by old
+    pub other_mine : own m other.number (seen_by other) ≡ []
+    pub other_fixed : fixed_of other ≡ fixed_of old
+    pub other_turns : other.turns ≡ 0
+    pub other_made : other.made ≡ 0
+
   -- One step was made, and its entry was added. What the seat has seen begins with what it had seen, goes on with entries of others, and ends with its own.
   pub record Turned (old new : Seat V S R E F) (step : S) (reply : R) : Type 0 where
     pub before : V

@@ -1,6 +1,6 @@
 //! The rule of the table, and the names of its steps.
 ghost use Rattle.spl_turn.specs.Rule.{Kept};
-ghost use Rattle.spl_turn.specs.Moves.{opening, counted, another, joined, spent, entered, added, lain, risen};
+ghost use Rattle.spl_turn.specs.Moves.{opening, counted, another, joined, spent, entered, added, lain, risen, looked};
 
 use crate::guarded::Guarded;
 use crate::known::Known;
@@ -60,6 +60,15 @@ pub(crate) struct GetUp<V> {
 
 impl<V: StandsFor> Play<SlotOf<V>, KnownOf<V>> for GetUp<V> {
     ghost then = { risen V.means };
+}
+
+/// A seat looks at the record.
+pub(crate) struct Look<V> {
+    value: PhantomData<V>,
+}
+
+impl<V: StandsFor> Play<SlotOf<V>, KnownOf<V>> for Look<V> {
+    ghost then = { looked V.means };
 }
 
 /// The first seat makes another.

@@ -24,7 +24,7 @@ mod turn;
 
 pub use seat::{Seat, SeatOf};
 pub use stands_for::StandsFor;
-pub use turn::Turn;
+pub use turn::{Seats, Turn};
 
 #[cfg(test)]
 mod tests;

@@ -1,14 +1,16 @@
-ghost use Rattle.std.specs.Prelude.{◌≡◌, ℕ, ◌+◌, ◌<◌, ◌^◌, List, [], ◌∷◌, ◌++◌, MatchBool};
+ghost use Rattle.std.specs.Prelude.{◌≡◌, ℕ, ◌+◌, ◌<◌, ◌^◌, List, [], ◌∷◌, ◌++◌, ◌↔◌, MatchBool, IfOk, IfErr, IsErr};
 ghost use Rattle.spl_turn.specs.Meaning.{own, MayStep};
-ghost use Rattle.spl_turn.specs.Moves.{Took, Makes, Held, MayMake, MayLeave, Added};
-ghost use Rattle.spl_turn.specs.Turning.{turn_of, seen_by, Turned};
+ghost use Rattle.spl_turn.specs.Moves.{Took, Makes, Held, MayMake, MayLeave, Added, counted, another};
+ghost use Rattle.spl_turn.specs.Turning.{turn_of, seen_by, Opens, Splits, Turned};
 ghost use Rattle.spl_turn.specs.Seating.{IsReady};
 
-use crate::history::{Enter, GetUp, KnownOf, Leave, LieDown, OneHistory, SlotOf};
+use crate::guarded::Guarded;
+use crate::history::{Another, Enter, GetUp, KnownOf, Leave, LieDown, Look, OneHistory, SlotOf};
 use crate::make::make;
-use crate::seat::{PlaceOf, SeatOf};
+use crate::seat::{PlaceOf, Seat, SeatOf};
 use crate::stands_for::StandsFor;
 use atomic_table::Table;
+use spl_base::NoMemory;
 use std::alloc::Global;
 use std::hint::spin_loop;
 use std::snapshot::Snapshot;
@@ -26,6 +28,15 @@ const LOOKS: u32 = 32;
 
 const YIELDS: u32 = 16;
 
+/// How many seats a turn has at most.
+const MOST_SEATS: u32 = 32;
+
+/// All seats were made that a turn has.
+#[derive(Clone, Copy, Debug, PartialEq, Eq)]
+pub struct Seats {
+    pub made: u32,
+}
+
 /// A value that is stepped in turn.
 #[derive(Drop)]
 pub struct Turn<V: StandsFor> {
@@ -34,6 +45,64 @@ pub struct Turn<V: StandsFor> {
 }
 
 impl<V: StandsFor> Turn<V> {
+    /// A turn over the value, and its first seat.
+    pub fn new(alloc: Global, value: V) -> Result<(Turn<V>, SeatOf<V>), NoMemory>
+        requires { V.means.stands value [] }
+        ensures { IfOk result (λ r. Opens V.means value r.1 × (turn_of r.1 ≡ r.0.table.shared.table_id)) }
+    {
+        let opening = Snapshot::of(&value);
+        let mut slots = Vec::new(alloc);
+        slots.push(Guarded { value, last: None })?;
+        match Table::new(alloc, &[0, 0], slots, &opening) {
+            Ok((table, place)) => Ok((
+                Turn { table },
+                Seat {
+                    number: 0,
+                    turns: 0,
+                    made: 1,
+                    place,
+                },
+            )),
+            Err(_refused) => Err(NoMemory),
+        }
+    }
+
+    /// Another seat, which has seen what the first seat has seen. The seat is the first one.
+    pub fn split(&self, seat: &mut SeatOf<V>) -> Result<SeatOf<V>, Seats>
+        requires turn { turn_of seat.old ≡ self.now.table.shared.table_id }
+        requires first { 0 < seat.old.made }
+        ensures ok { IfOk result (λ other. Splits V.means seat.old seat.new other) }
+        ensures err { IfErr result (λ e. (e.made ≡ 32) × (seat.new ≡ seat.old)) }
+        ensures spent { IsErr result ↔ (seat.old.made ≡ 32) }
+    {
+        let made = seat.made;
+        if made >= MOST_SEATS {
+            return Err(Seats { made });
+        }
+        let place = self.split_at(&mut seat.place);
+        seat.made += 1;
+        Ok(Seat {
+            number: made,
+            turns: 0,
+            made: 0,
+            place,
+        })
+    }
+
+    fn split_at(&self, place: &mut PlaceOf<V>) -> PlaceOf<V>
+        requires turn { place.old.table_id ≡ self.now.table.shared.table_id }
+        requires first { (0 < place.old.me.0.made) × (place.old.me.0.made < 32) × (place.old.me.0.seats ≡ 1) }
+        requires bare { place.old.me.1 ≡ [] }
+        ensures turn { (place.new.table_id ≡ place.old.table_id) × (result.table_id ≡ place.old.table_id) }
+        ensures place { place.new.me ≡ (counted place.old.me.0, []) }
+        ensures another { result.me ≡ (another place.old.me.0, []) }
+        ensures new { own V.means place.old.me.0.made place.old.me.0.seen ≡ [] }
+    {
+        let shared = &self.table.shared;
+        shared.load::<Look<V>>(place, HISTORY);
+        shared.split_seat::<Another>(place)
+    }
+
     /// Makes one step on the value, and adds one entry to the record: the step's. It waits while others make theirs.
     pub fn turn<R: Wait>(&self, rt: &R, seat: &mut SeatOf<V>, step: V::Step) -> V::Reply
         requires turn { turn_of seat.old ≡ self.now.table.shared.table_id }
