@@ -3,3 +3,4 @@ pub mod Fronts
 pub mod Keeps
 pub mod Making
 pub mod Gathering
+pub mod Joining

@@ -1,6 +1,9 @@
 -- What a turn and its calls do, in the words of their clauses.
 use Rattle.std.specs.Prelude.{◌≡◌, ℕ, ◌+◌, ◌<◌, ◌≤◌, List, [], ◌∷◌, ◌++◌, All, Contains, length, Option, Some}
 use Rattle.atomic_table.specs.Seated.{TableId}
+use Rattle.atomic_table.specs.Table.{Me}
+use Rattle.spl_turn.specs.declared.known.Known.{Known}
+use Rattle.spl_turn.specs.declared.known.Stage.TheVariants.{Idle}
 use Rattle.spl_turn.specs.Meaning.{Meaning, own}
 use Rattle.spl_turn.specs.Rule.{sight, Begins}
 use Rattle.spl_turn.specs.declared.known.Sight.{Sight}
@@ -27,6 +30,17 @@ module _ {V S R E F : Type 0} where
     pub number : new.number ≡ old.number
     pub turn : turn_of new ≡ turn_of old
     pub fixed : fixed_of new ≡ fixed_of old
+
+-- a place that speaks for a seat, and for all that were joined into it
+pub record Gathers {G E F : Type 0} (me after : Me G (Known E F)) (others : List (Sight E)) : Type 0 where
+  pub joined : after.0.joined ≡ others
+  pub seats : after.0.seats ≡ length others + 1
+  pub number : after.0.number ≡ me.0.number
+  pub seen : after.0.seen ≡ me.0.seen
+  pub made : after.0.made ≡ me.0.made
+  pub fixed : after.0.fixed ≡ me.0.fixed
+  pub idle : after.0.stage ≡ Idle
+  pub bare : after.1 ≡ []
 
 module _ {V S R E F : Type 0} (m : Meaning V S R E F) where
   -- the first seat, of a turn over the value

@@ -24,7 +24,7 @@ mod turn;
 
 pub use seat::{Seat, SeatOf};
 pub use stands_for::StandsFor;
-pub use turn::{Seats, Turn};
+pub use turn::{Seats, Turn, Unclosed};
 
 #[cfg(test)]
 mod tests;

@@ -1,11 +1,13 @@
-ghost use Rattle.std.specs.Prelude.{◌≡◌, ℕ, ◌+◌, ◌<◌, ◌^◌, List, [], ◌∷◌, ◌++◌, ◌↔◌, MatchBool, IfOk, IfErr, IsErr};
+ghost use Rattle.std.specs.Prelude.{◌≡◌, ℕ, ◌+◌, ◌<◌, ◌^◌, List, [], ◌∷◌, ◌++◌, ◌↔◌, MatchBool, IfOk, IfErr, IsOk, IsErr, All, Some, map, min, length};
 ghost use Rattle.spl_turn.specs.Meaning.{own, MayStep};
 ghost use Rattle.spl_turn.specs.Moves.{Took, Makes, Held, MayMake, MayLeave, Added, counted, another};
-ghost use Rattle.spl_turn.specs.Turning.{turn_of, seen_by, Opens, Splits, Turned};
+ghost use Rattle.spl_turn.specs.Turning.{turn_of, seen_by, sight_of, fixed_of, Opens, Splits, Turned, Gathers, StandsForAll};
+ghost use Rattle.spl_turn.specs.Rule.{sights};
+ghost use Rattle.spl_turn.specs.declared.known.Stage.TheVariants.{Idle};
 ghost use Rattle.spl_turn.specs.Seating.{IsReady};
 
 use crate::guarded::Guarded;
-use crate::history::{Another, Enter, GetUp, KnownOf, Leave, LieDown, Look, OneHistory, SlotOf};
+use crate::history::{Another, Enter, Gather, GetUp, KnownOf, Leave, LieDown, Look, OneHistory, SlotOf};
 use crate::make::make;
 use crate::seat::{PlaceOf, Seat, SeatOf};
 use crate::stands_for::StandsFor;
@@ -37,10 +39,23 @@ pub struct Seats {
     pub made: u32,
 }
 
+/// Not all seats were gathered. All comes back.
+#[derive(Drop)]
+pub struct Unclosed<V: StandsFor> {
+    pub made: u32,
+    pub gathered: u32,
+    pub turn: Turn<V>,
+    pub seat: SeatOf<V>,
+    pub others: Vec<SeatOf<V>>,
+}
+
+/// The table of a turn.
+type TableOf<V> = Table<SlotOf<V>, KnownOf<V>, Snapshot<V>, OneHistory<V>, Global>;
+
 /// A value that is stepped in turn.
 #[derive(Drop)]
 pub struct Turn<V: StandsFor> {
-    table: Table<SlotOf<V>, KnownOf<V>, Snapshot<V>, OneHistory<V>, Global>,
+    table: TableOf<V>,
     ghost sized: { (table.shared.table_id.words ≡ 2) × (table.shared.table_id.slots ≡ 1) },
 }
 
@@ -228,4 +243,82 @@ impl<V: StandsFor> Turn<V> {
             self.table.shared.wake_one(HISTORY);
         }
     }
+
+    /// Gives the value back where the seats are all that were made: the first one, and the others. Else it gives all back.
+    pub fn close(self, seat: SeatOf<V>, others: Vec<SeatOf<V>>) -> Result<V, Unclosed<V>>
+        requires turn { turn_of seat ≡ self.table.shared.table_id }
+        requires turns { All (λ other. turn_of other ≡ self.table.shared.table_id) others.items }
+        requires first { 0 < seat.made }
+        ensures value { IfOk result (λ value. StandsForAll V.means value (sight_of seat ∷ map sight_of others.items) × (fixed_of seat ≡ Some (V.means.fixed value))) }
+        ensures back { IfErr result (λ all. (all.made ≡ seat.made) × (all.gathered ≡ min (length others.items + 1) 4294967295) × (all.turn ≡ self) × (all.seat ≡ seat) × (all.others ≡ others)) }
+        ensures gathered { IsOk result ↔ (seat.made ≡ length others.items + 1) }
+    {
+        let made = seat.made;
+        let gathered = with_the_first(others.len());
+        if gathered != made {
+            return Err(Unclosed {
+                made,
+                gathered,
+                turn: self,
+                seat,
+                others,
+            });
+        }
+        let Seat {
+            place,
+            number: _,
+            turns: _,
+            made: _,
+        } = seat;
+        let place = self.gather(place, others);
+        let Turn { table } = self;
+        Ok(take_value(table, place))
+    }
+
+    /// Joins the other seats into the first one.
+    fn gather(&self, place: PlaceOf<V>, others: Vec<SeatOf<V>>) -> PlaceOf<V>
+        requires turn { place.table_id ≡ self.now.table.shared.table_id }
+        requires turns { All (λ other. turn_of other ≡ self.now.table.shared.table_id) others.items }
+        requires first { (0 < place.me.0.made) × (place.me.0.seats ≡ 1) × (place.me.0.joined ≡ []) × (place.me.0.stage ≡ Idle) × (place.me.1 ≡ []) }
+        ensures turn { result.table_id ≡ place.table_id }
+        ensures all { Gathers place.me result.me (map sight_of others.items) }
+    {
+        let mut first = place;
+        let mut others = others;
+        while let Some(other) = others.pop() {
+            let Seat {
+                place,
+                number: _,
+                turns: _,
+                made: _,
+            } = other;
+            self.table.shared.join_seat::<Gather>(&mut first, place);
+        }
+        first
+    }
+}
+
+/// How many seats there are with the first one. Saturates at `u32::MAX`.
+fn with_the_first(others: usize) -> u32
+    ensures { result ≡ min (others + 1) 4294967295 }
+{
+    if others < u32::MAX as usize {
+        others as u32 + 1
+    } else {
+        u32::MAX
+    }
+}
+
+/// The value of a table, of which one place speaks for all seats.
+fn take_value<V: StandsFor>(table: TableOf<V>, place: PlaceOf<V>) -> V
+    requires turn { (place.table_id ≡ table.shared.table_id) × (table.shared.table_id.slots ≡ 1) }
+    requires first { (0 < place.me.0.made) × (place.me.0.seats ≡ place.me.0.made) × (length (sights place.me.0) ≡ place.me.0.made) × (place.me.0.stage ≡ Idle) }
+    ensures value { StandsForAll V.means result (sights place.me.0) }
+    ensures fixed { place.me.0.fixed ≡ Some (V.means.fixed result) }
+{
+    let mut closed = table.close_with(place);
+    let slot = closed.take(0);
+    closed.free();
+    let Guarded { value, last: _ } = slot;
+    value
 }
