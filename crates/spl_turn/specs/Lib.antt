@@ -3,3 +3,4 @@ pub mod Rule
 pub mod Moves
 pub mod Seating
 pub mod Turning
+pub mod Whose

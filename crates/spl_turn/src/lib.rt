@@ -14,17 +14,22 @@
 //! | join  | none                                       | the first seat keeps what the other seat has seen |
 #![tactic(auto)]
 
+mod closes;
 mod guarded;
 mod history;
 mod known;
 mod make;
+mod opens;
 mod seat;
 mod stands_for;
+mod takes;
 mod turn;
 
+pub use closes::Unclosed;
+pub use opens::Seats;
 pub use seat::{Seat, SeatOf};
 pub use stands_for::StandsFor;
-pub use turn::{Seats, Turn, Unclosed};
+pub use turn::Turn;
 
 #[cfg(test)]
 mod tests;

@@ -1,6 +1,6 @@
 use Rattle.std.proofs.Common.{rules, ◌≡◌, ◌<◌, ◌++◌, ◌∷◌, [], refl, sym, ap, ◌∙◌, subst, ℕ, length, arith}
 use Rattle.std.proofs.lemmas.List.{nil_from_length}
-use Rattle.spl_turn.specs.Turning.{turn_of}
+use Rattle.spl_turn.specs.Whose.{IsSeatOf}
 use Rattle.spl_turn.specs.declared.seat.Seat.{Seat}
 use Rattle.spl_turn.proofs.Gathering.{joins}
 use Rattle.spl_turn.proofs.Joining.{joins_none, joins_one, joins_all, next_of}
@@ -11,7 +11,7 @@ join_seat-requires g c = let j = c.loop-other.invariant.1 in let f = j.so_far in
     let first : 0 < c.loop-other.first.me.0.made = subst (λ (n : ℕ). 0 < n) (sym f.made) asked.0 in
     let seats = f.seats in let one = x.rests.one_seat in (
       c.loop-other.invariant.0 ∙ c.requires.turn,
-      next_of (λ s. turn_of s ≡ c.args.self.now.table.shared.table_id) _ _ _ _ _ x j c.in-Some.ensures.items c.requires.turns,
+      next_of (IsSeatOf c.args.self.now) _ _ _ _ _ x j c.in-Some.ensures.items c.requires.turns,
       x.rests.bare,
       search rules,
       joins g.V.StandsFor.means _ _ _ _ first (omega (arith, seats)) f.idle (omega (arith, one)) x.rests.idle,

@@ -1,5 +1,5 @@
 use Rattle.spl_turn.proofs.Gathering.{ends, taken}
-use Rattle.spl_turn.proofs.turn.take_value.Goals as goal
+use Rattle.spl_turn.proofs.closes.take_value.Goals as goal
 
 pub returns-clause-value : goal.returns-clause-value
 returns-clause-value g c = let first = c.requires.first in
