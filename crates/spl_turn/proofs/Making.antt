@@ -1,8 +1,8 @@
 -- What a seat may do between taking the value and giving it back, and what a whole turn makes of it.
 use Rattle.std.proofs.Common.{◌≡◌, ℕ, ◌+◌, ◌<◌, ◌^◌, List, [], ◌∷◌, ◌++◌, length, Some, sym, refl, ap, ◌∙◌, subst, append-nil, append_assoc, arith}
-use Rattle.atomic_table.specs.Table.{Me}
+use Rattle.atomic_table.specs.Table.{Me, rest}
 use Rattle.spl_turn.specs.Meaning.{Meaning, MayStep, own}
-use Rattle.spl_turn.specs.Moves.{entry_of, Took, Added, MayLeave, MayMake, Held, Makes}
+use Rattle.spl_turn.specs.Moves.{entry_of, Took, Added, MayLeave, MayMake, Held, Makes, IsNoted}
 use Rattle.spl_turn.specs.Seating.{Rests, IsReady}
 use Rattle.spl_turn.specs.declared.known.Known.{Known}
 use Rattle.spl_turn.specs.declared.known.Stage.TheVariants.{Idle}
@@ -20,6 +20,23 @@ module _ {V S R E F : Type 0} (m : Meaning V S R E F) where
   -- entries of others are none of the actor's own
   pub own_between : (n : ℕ) (seen between : List E) → own m n between ≡ [] → own m n (seen ++ between) ≡ own m n seen
   own_between n seen between none = own_append m n seen between ∙ (ap (λ l. own m n seen ++ l) none ∙ append-nil (own m n seen))
+
+  pub slot_last : (me : M) (g : Guarded V S R) → me.1 ≡ (0, g) ∷ [] → me.1 ≡ (0, g) ∷ rest me.1
+  slot_last me g is = is ∙ ap (λ l. (0, g) ∷ rest l) (sym is)
+
+  pub held : (me : M) (now after : Guarded V S R) (number : ℕ) (step : S) (reply : R) → MayMake m me number step → me.1 ≡ (0, now) ∷ rest me.1 → IsNoted now.value step reply after.last → m.fixed after.value ≡ m.fixed now.value
+      → ((past : List E) → MayStep m now.value number step past → m.stands after.value (past ++ m.entry now.value number step reply after.value ∷ [])) → Held m me (me.0, (0, after) ∷ rest me.1) number step reply
+  held me now after number step reply may is noted fixed stands =
+      let bare : rest me.1 ≡ [] = ap rest may.slot in record {
+        old = now;
+        new = after;
+        view = refl;
+        old_slot = is ∙ ap (λ l. (0, now) ∷ l) bare;
+        new_slot = ap (λ l. (0, after) ∷ l) bare;
+        noted = noted;
+        fixed = fixed;
+        stands = stands;
+      }
 
   may_step : (me mid : M) (number : ℕ) (step : S) → Took m me mid → number ≡ me.0.number → number < 32 → (t : Took m me mid) → m.may number (own m number me.0.seen) step → MayStep m t.guarded.value number step (me.0.seen ++ t.between)
   may_step me mid number step _ is below t may = record {

@@ -1,5 +1,5 @@
 ghost use Rattle.std.specs.Prelude.{◌≡◌, ◌+◌, ◌<◌, ◌^◌, ◌≤◌, All, length, refl};
-ghost use Rattle.spl_turn.specs.Turning.{turn_of};
+ghost use Rattle.spl_turn.specs.Whose.{IsSeatOf};
 
 use crate::{Seat, SeatOf, Seats, StandsFor, Turn, Unclosed};
 use std::alloc::Global;
@@ -47,7 +47,7 @@ fn seated(
     seats: u32,
 ) -> (Turn<Counter>, SeatOf<Counter>, Vec<SeatOf<Counter>>)
     requires { (0 < seats) × (seats ≤ 32) }
-    ensures turns { (turn_of result.1 ≡ result.0.table.shared.table_id) × All (λ seat. (turn_of seat ≡ result.0.table.shared.table_id) × (seat.turns ≡ 0)) result.2.items }
+    ensures turns { IsSeatOf result.0 result.1 × All (λ seat. IsSeatOf result.0 seat × (seat.turns ≡ 0)) result.2.items }
     ensures first { (result.1.turns ≡ 0) × (result.1.made ≡ seats) × (length result.2.items + 1 ≡ seats) }
 {
     let (turn, mut first) = Turn::new(alloc, Counter { count: 0 }).expect(rt, "memory");
@@ -63,9 +63,9 @@ fn seated(
 
 /// Makes turns, and says whether each reply is above the one before.
 fn rises<R: Wait>(rt: &R, turn: &Turn<Counter>, seat: &mut SeatOf<Counter>, turns: u32) -> bool
-    requires turn { turn_of seat.old ≡ turn.now.table.shared.table_id }
+    requires turn { IsSeatOf turn.now seat.old }
     requires room { seat.old.turns < 2 ^ 40 }
-    ensures same { (turn_of seat.new ≡ turn_of seat.old) × (seat.new.turns ≡ seat.old.turns + turns) × (seat.new.made ≡ seat.old.made) }
+    ensures same { IsSeatOf turn.now seat.new × (seat.new.turns ≡ seat.old.turns + turns) × (seat.new.made ≡ seat.old.made) }
 {
     let mut last = 0;
     let mut rose = true;
@@ -75,4 +75,54 @@ fn rises<R: Wait>(rt: &R, turn: &Turn<Counter>, seat: &mut SeatOf<Counter>, turn
         last = count;
     }
     rose
+}
+
+/// A thread's seat, and whether its replies rose.
+#[derive(Drop)]
+struct Runner {
+    seat: SeatOf<Counter>,
+    rose: bool,
+}
+
+#[test]
+fn there_are_thirty_two_seats(rt: HostRuntime) -> Result<(), Fail> {
+    let (turn, mut first, others) = seated(&rt, rt.alloc(), 32);
+    assert_eq!(rt; others.len(), 31);
+    match turn.split(&mut first) {
+        Ok(_) => panic!(rt; "a seat more than there are"),
+        Err(refused) => assert_eq!(rt; refused, Seats { made: 32 }),
+    }
+    Ok(())
+}
+
+#[test]
+fn a_turn_stays_open_while_a_seat_is_missing(rt: HostRuntime) -> Result<(), Fail> {
+    let (turn, first, mut others) = seated(&rt, rt.alloc(), 32);
+    let missing = others.pop();
+    assert!(rt; missing.is_some());
+    match turn.close(first, others) {
+        Ok(_) => panic!(rt; "closed with a seat missing"),
+        Err(back) => {
+            assert_eq!(rt; (back.made, back.gathered, back.others.len()), (32, 31, 30));
+        }
+    }
+    Ok(())
+}
+
+#[test]
+fn two_seats_count_together(rt: HostRuntime) -> Result<(), Fail> {
+    let (turn, mut first, mut others) = seated(&rt, rt.alloc(), 2);
+    let Some(mut second) = others.pop() else {
+        unreachable!()
+    };
+    assert_eq!(rt; (first.number(), second.number()), (0, 1));
+    assert!(rt; rises(&rt, &turn, &mut first, 3) && rises(&rt, &turn, &mut second, 4));
+    assert_eq!(rt; turn.turn(&rt, &mut first, Raise), 8);
+    assert_eq!(rt; (first.turns(), second.turns()), (4, 4));
+    others.push(second)?;
+    match turn.close(first, others) {
+        Ok(counter) => assert_eq!(rt; counter.count, 8),
+        Err(_) => panic!(rt; "all seats are there"),
+    }
+    Ok(())
 }

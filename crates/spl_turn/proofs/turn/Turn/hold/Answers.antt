@@ -1,18 +1,11 @@
-use Rattle.std.proofs.Common.{ap, ◌∙◌, sym, ◌∷◌, [], ◌≡◌, refl}
-use Rattle.atomic_table.specs.Table.{rest}
+use Rattle.spl_turn.proofs.Making.{slot_last, held}
 use Rattle.spl_turn.proofs.turn.Turn.hold.Goals as goal
 
 pub slot_mut-slot-requires : goal.slot_mut-slot-requires
-slot_mut-slot-requires g c = let may = c.requires.held in (c.requires.turn, (may.guarded, may.slot ∙ ap (λ l. (0, may.guarded) ∷ rest l) (sym may.slot)))
+slot_mut-slot-requires g c = let may = c.requires.held in
+    (c.requires.turn, (may.guarded, slot_last g.V.StandsFor.means c.args.place.now.me may.guarded may.slot))
 
 pub returns-clause-made : goal.returns-clause-made
-returns-clause-made g c = let bare : rest c.args.place.now.me.1 ≡ [] = ap rest c.requires.held.slot in record {
-  old = c.slot_mut-slot.result.now;
-  new = c.make.new.slot;
-  view = refl;
-  old_slot = c.slot_mut-slot.ensures.value ∙ ap (λ l. (0, c.slot_mut-slot.result.now) ∷ l) bare;
-  new_slot = ap (λ l. (0, c.make.new.slot) ∷ l) bare;
-  noted = c.make.ensures.noted;
-  fixed = c.make.ensures.fixed;
-  stands = c.make.ensures.stands;
-}
+returns-clause-made g c = let made = c.make.ensures in
+    held g.V.StandsFor.means c.args.place.now.me c.slot_mut-slot.result.now c.make.new.slot c.args.number c.args.step
+    c.make.result c.requires.held c.slot_mut-slot.ensures.value made.noted made.fixed made.stands
