@@ -126,3 +126,29 @@ fn two_seats_count_together(rt: HostRuntime) -> Result<(), Fail> {
     }
     Ok(())
 }
+
+/// Makes turns with all seats at the same time.
+fn run_all<R: Threads + Wait + Sync>(rt: &R, turn: &Turn<Counter>, runners: &mut [Runner])
+    requires { All (λ runner. IsSeatOf turn.now runner.seat × (runner.seat.turns ≡ 0)) runners.old }
+{
+    let run = |_place: usize, runner: &mut Runner|
+        requires { IsSeatOf turn.now runner.now.seat × (runner.now.seat.turns ≡ 0) }
+    { runner.rose = rises(rt, turn, &mut runner.seat, 10_000) };
+    thread::for_each_mut(rt, runners, 8, &run);
+}
+
+#[test]
+fn eight_threads_count_together(rt: HostRuntime) -> Result<(), Fail> {
+    let (turn, first, others) = seated(&rt, rt.alloc(), 8);
+    let mut runners = Vec::new(rt.alloc());
+    runners.push(Runner {
+        seat: first,
+        rose: false,
+    })?;
+    for seat in others {
+        runners.push(Runner { seat, rose: false })?;
+    }
+    run_all(&rt, &turn, runners.as_mut_slice());
+    assert!(rt; runners.iter().all(|runner| runner.rose));
+    Ok(())
+}
