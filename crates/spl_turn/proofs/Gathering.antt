@@ -68,13 +68,16 @@ module _ {V S R E F : Type 0} (m : Meaning V S R E F) where
     keeps,
     tt,
     same_table m s r id me.0 me.1 at,
-    (refl, λ first some_seat.
-        let fits = r.each id me.0 at in
-        let f = first_of (FitsSight m r.past r.made r.owner id) (sight me.0.number me.0.seen) me.0.joined (fits.fronts some_seat) in
-        let made : me.0.made ≡ r.made = (fits.is_first first).1 in
-        let made_le : r.made ≤ me.0.made = omega arith in
-        own_front (own m me.0.made me.0.seen) (own m me.0.made f.begins.rest)
-        (sym (own_append m me.0.made me.0.seen f.begins.rest) ∙ (ap (own m me.0.made) (sym f.begins.whole) ∙ r.makers me.0.made made_le))),
+    (
+      refl,
+      λ first some_seat.
+          let fits = r.each id me.0 at in
+          let f = first_of (FitsSight m r.past r.made r.owner id) (sight me.0.number me.0.seen) me.0.joined (fits.fronts some_seat) in
+          let made : me.0.made ≡ r.made = (fits.is_first first).1 in
+          let made_le : r.made ≤ me.0.made = omega arith in
+          own_front (own m me.0.made me.0.seen) (own m me.0.made f.begins.rest)
+          (sym (own_append m me.0.made me.0.seen f.begins.rest) ∙ (ap (own m me.0.made) (sym f.begins.whole) ∙ r.makers me.0.made made_le)),
+    ),
   )
 
   pub starts_with : (items : List (Guarded V S R)) (g : Guarded V S R) (value : V) → items ≡ g ∷ [] → value ≡ g.value → m.stands g.value [] → Kept m (table_of (0 ∷ 0 ∷ []) items (opening (m.fixed value)))
@@ -120,11 +123,11 @@ module _ {V S R E F : Type 0} (m : Meaning V S R E F) where
       let turns' = total_snoc (λ (u : K m). u.turns) vs new in
       let none-new : own m v.made r.past ≡ [] = r.makers v.made (omega arith) in
       let new_front : FitsSight m r.past (r.made + 1) owner' seat (sight v.made v.seen) =
-          record {
-            owned = subst (λ n. given r.made seat r.owner n ≡ seat) (sym made) (given_new r.made seat r.owner);
-            below = omega arith;
-            begins = begins_new m r.past (sight v.number v.seen) v.made none-new f.begins;
-          } in
+      record {
+        owned = subst (λ n. given r.made seat r.owner n ≡ seat) (sym made) (given_new r.made seat r.owner);
+        below = omega arith;
+        begins = begins_new m r.past (sight v.number v.seen) v.made none-new f.begins;
+      } in
       let new_fits : Fits m r.past (r.made + 1) r.fixed owner' seat new = record {
         fronts = λ _. All-cons (FitsSight m r.past (r.made + 1) owner' seat) (sight v.made v.seen) [] new_front (none_of (FitsSight m r.past (r.made + 1) owner' seat) [] refl);
         few_turns = omega arith;
@@ -149,22 +152,22 @@ module _ {V S R E F : Type 0} (m : Meaning V S R E F) where
         makers = λ n above. r.makers n (omega arith);
         each = λ j u there. ⊎_elim
             (λ old. each_set (Fits m r.past (r.made + 1) r.fixed owner') s.views id w
-              (λ k x other found. let fx = r.each k x found in record {
-                fronts = λ some_seat. fronts_given r.past r.made seat r.owner k (sights x) (fx.fronts some_seat);
-                few_turns = fx.few_turns;
-                is_first = λ some_made. absurd (other ((fx.is_first some_made).0 ∙ sym here));
-                same_fixed = fx.same_fixed;
-                holder = fx.holder;
-                spent = fx.spent;
-              })
-              record {
-                fronts = λ some_seat. fronts_given r.past r.made seat r.owner id (sights v) (fits.fronts some_seat);
-                few_turns = fits.few_turns;
-                is_first = λ _. (here, ap (λ n. n + 1) made);
-                same_fixed = fits.same_fixed;
-                holder = fits.holder;
-                spent = fits.spent;
-              } j u old)
+            (λ k x other found. let fx = r.each k x found in record {
+              fronts = λ some_seat. fronts_given r.past r.made seat r.owner k (sights x) (fx.fronts some_seat);
+              few_turns = fx.few_turns;
+              is_first = λ some_made. absurd (other ((fx.is_first some_made).0 ∙ sym here));
+              same_fixed = fx.same_fixed;
+              holder = fx.holder;
+              spent = fx.spent;
+            })
+            record {
+              fronts = λ some_seat. fronts_given r.past r.made seat r.owner id (sights v) (fits.fronts some_seat);
+              few_turns = fits.few_turns;
+              is_first = λ _. (here, ap (λ n. n + 1) made);
+              same_fixed = fits.same_fixed;
+              holder = fits.holder;
+              spent = fits.spent;
+            } j u old)
             (λ last. subst (λ k. Fits m r.past (r.made + 1) r.fixed owner' k u) (sym last.0) (subst (Fits m r.past (r.made + 1) r.fixed owner' seat) last.1 new_fits))
             (at_end vs new j u there);
         witness = dite (ℕ_discrete r.witness.index id)
@@ -277,15 +280,15 @@ module _ {V S R E F : Type 0} (m : Meaning V S R E F) where
         makers = r.makers;
         each = each_set (Fits m r.past r.made r.fixed owner') vs other spent
             (λ j u apart found. each_set (λ k x. k ≢ other → Fits m r.past r.made r.fixed owner' k x) s.views id b
-              (λ k x _ there away. let fx = r.each k x there in record {
-                fronts = λ some_seat. fronts_stay r.past r.made other id r.owner k (sights x) away (fx.fronts some_seat);
-                few_turns = fx.few_turns;
-                is_first = fx.is_first;
-                same_fixed = fx.same_fixed;
-                holder = fx.holder;
-                spent = fx.spent;
-              })
-              (λ _. b_fits) j u found apart)
+            (λ k x _ there away. let fx = r.each k x there in record {
+              fronts = λ some_seat. fronts_stay r.past r.made other id r.owner k (sights x) away (fx.fronts some_seat);
+              few_turns = fx.few_turns;
+              is_first = fx.is_first;
+              same_fixed = fx.same_fixed;
+              holder = fx.holder;
+              spent = fx.spent;
+            })
+            (λ _. b_fits) j u found apart)
             spent_fits;
         witness = dite (ℕ_discrete r.witness.index id)
             (λ same. let is : r.witness.view ≡ v = at_once s.views id r.witness.view v (subst (λ i. get_elem? s.views i ≡ some r.witness.view) same r.witness.there) at in record {
@@ -298,24 +301,24 @@ module _ {V S R E F : Type 0} (m : Meaning V S R E F) where
               whole = r.witness.whole;
             })
             (λ apart. dite (ℕ_discrete r.witness.index other)
-              (λ same. let is : r.witness.view ≡ w = at_once s.views other r.witness.view w (subst (λ i. get_elem? s.views i ≡ some r.witness.view) same r.witness.there) at' in record {
-                index = id;
-                view = b;
-                there = set_else vs other id spent ne' ∙ set_at s.views id v b at;
-                unspent = omega arith;
-                at = r.witness.at;
-                among = among_right v w r.witness.at (subst (λ (u : K m). Contains (sights u) r.witness.at) is r.witness.among);
-                whole = r.witness.whole;
-              })
-              (λ away. record {
-                index = r.witness.index;
-                view = r.witness.view;
-                there = set_else vs other r.witness.index spent away ∙ (set_else s.views id r.witness.index b apart ∙ r.witness.there);
-                unspent = r.witness.unspent;
-                at = r.witness.at;
-                among = r.witness.among;
-                whole = r.witness.whole;
-              }));
+            (λ same. let is : r.witness.view ≡ w = at_once s.views other r.witness.view w (subst (λ i. get_elem? s.views i ≡ some r.witness.view) same r.witness.there) at' in record {
+              index = id;
+              view = b;
+              there = set_else vs other id spent ne' ∙ set_at s.views id v b at;
+              unspent = omega arith;
+              at = r.witness.at;
+              among = among_right v w r.witness.at (subst (λ (u : K m). Contains (sights u) r.witness.at) is r.witness.among);
+              whole = r.witness.whole;
+            })
+            (λ away. record {
+              index = r.witness.index;
+              view = r.witness.view;
+              there = set_else vs other r.witness.index spent away ∙ (set_else s.views id r.witness.index b apart ∙ r.witness.there);
+              unspent = r.witness.unspent;
+              at = r.witness.at;
+              among = r.witness.among;
+              whole = r.witness.whole;
+            }));
       }
 
   -- what the table has at the end, where one view speaks for all seats
@@ -333,16 +336,16 @@ module _ {V S R E F : Type 0} (m : Meaning V S R E F) where
       let made : v.made ≡ r.made = (fits.is_first first).1 in
       let some_seat : 0 < v.seats = omega arith in
       let alone = λ (j : ℕ) (u : K m) (other : id ≢ j) (there : get_elem? s.views j ≡ some u).
-          let two = total_two (λ (x : K m). x.seats) s.views id j v u other at there in let e : u.seats ≡ 0 = omega (arith, two, r.all_seats) in e in
+      let two = total_two (λ (x : K m). x.seats) s.views id j v u other at there in let e : u.seats ≡ 0 = omega (arith, two, r.all_seats) in e in
       let none = total_none (λ (u : K m). is_holding u.stage) s.views
-          (λ j u there. dite (ℕ_discrete id j)
-            (λ same. let is : v ≡ u = at_once s.views j v u (subst (λ i. get_elem? s.views i ≡ some v) same at) there in ap is_holding (ap (λ (x : K m). x.stage) (sym is) ∙ idle))
-            (λ other. ap is_holding ((r.each j u there).spent (alone j u other there)))) in
+      (λ j u there. dite (ℕ_discrete id j)
+      (λ same. let is : v ≡ u = at_once s.views j v u (subst (λ i. get_elem? s.views i ≡ some v) same at) there in ap is_holding (ap (λ (x : K m). x.stage) (sym is) ∙ idle))
+      (λ other. ap is_holding ((r.each j u there).spent (alone j u other there)))) in
       let out : r.out ≡ 0 = sym r.holders ∙ none in
       let home = subst (λ o. Home m r.past r.fixed o s.homes) out r.home in
       let g : Guarded V S R = home.0 in
       let here : r.witness.index ≡ id = dite (ℕ_discrete id r.witness.index) (λ same. sym same)
-          (λ other. let some_one = r.witness.unspent in let e = alone r.witness.index r.witness.view other r.witness.there in absurd (omega arith)) in
+      (λ other. let some_one = r.witness.unspent in let e = alone r.witness.index r.witness.view other r.witness.there in absurd (omega arith)) in
       let view : r.witness.view ≡ v = at_once s.views id r.witness.view v (subst (λ i. get_elem? s.views i ≡ some r.witness.view) here r.witness.there) at in
       record {
         slot = g;

@@ -110,8 +110,7 @@ module _ {V S R E F : Type 0} (m : Meaning V S R E F) where
       let holds = total_set (λ (u : K). is_holding u.stage) s.views id v w at in
       let seats = total_set (λ (u : K). u.seats) s.views id v w at in
       let turns = total_set (λ (u : K). u.turns) s.views id v w at in
-      let few = ready.few_turns in
-      (
+      let few = ready.few_turns in (
         w,
         takes 0 g,
         ap (λ hs. get_elem? hs 0) h.1,
@@ -161,7 +160,7 @@ module _ {V S R E F : Type 0} (m : Meaning V S R E F) where
   enters slots id old me even ready s r wide at small =
       exchanged (get_or s.words 0 0) old (old + 1) (Goes s id me (entered m (step slots 0 old (old + 1) none) me))
       (λ hit. enters_home slots id old me ready s r at hit
-          (let word : get_or s.words 0 0 ≡ 2 * length r.past + r.out = ap (λ ws. get_or ws 0 0) r.words in let few = r.one_holder in omega arith))
+      (let word : get_or s.words 0 0 ≡ 2 * length r.past + r.out = ap (λ ws. get_or ws 0 0) r.words in let few = r.one_holder in omega arith))
       (λ miss. (me.0, keeps, tt, same_table s r id me.0 me.1 at, ((λ hit. absurd (miss hit)), λ _. refl)))
 
   -- at another seat nothing changes when the holder adds its entry
@@ -209,8 +208,7 @@ module _ {V S R E F : Type 0} (m : Meaning V S R E F) where
       let out : r.out ≡ 1 = omega (arith, part, r.holders, r.one_holder) in
       let longer : length (r.past ++ e ∷ []) ≡ length r.past + 1 = length-append r.past (e ∷ []) in
       let home = subst (λ o. Home m r.past r.fixed o s.homes) out r.home in
-      let foreign = λ (n : ℕ) (ne : n ≢ v.number). own_others m n e (λ a. ne (sym a ∙ mine)) in
-      (
+      let foreign = λ (n : ℕ) (ne : n ≢ v.number). own_others m n e (λ a. ne (sym a ∙ mine)) in (
         w,
         gives,
         tt,
@@ -252,8 +250,8 @@ module _ {V S R E F : Type 0} (m : Meaning V S R E F) where
         λ h last slot noted. (
           ap rest may.slot,
           (let same : g ≡ h = same_slot me.1 g h may.slot slot in
-          let noted' : Some may.last ≡ Some last = sym may.noted ∙ (ap (λ x. x.last) same ∙ noted) in
-          ap₂ (λ x l. record v { seen = v.seen ++ entry_of m v.number x l ∷ []; turns = v.turns + 1; stage = Idle }) (ap (λ x. x.value) same) (some_is _ _ noted')),
+              let noted' : Some may.last ≡ Some last = sym may.noted ∙ (ap (λ x. x.last) same ∙ noted) in
+              ap₂ (λ x l. record v { seen = v.seen ++ entry_of m v.number x l ∷ []; turns = v.turns + 1; stage = Idle }) (ap (λ x. x.value) same) (some_is _ _ noted')),
         ),
       )
 
@@ -330,8 +328,7 @@ module _ {V S R E F : Type 0} (m : Meaning V S R E F) where
       let le = total_le (λ (u : K). is_waiting u.stage) (λ (u : K). u.seats) s.views (λ j u there. asleep_is_seat r.past r.made r.fixed r.owner j u (r.each j u there)) in
       let word : get_or s.words 1 0 ≡ total (λ (u : K). is_waiting u.stage) s.views = ap (λ ws. get_or ws 1 0) r.words in
       let idle : is_waiting me.0.stage ≡ 0 = ap is_waiting ready.idle in
-      let free : is_holding me.0.stage ≡ 0 = ap is_holding ready.idle in
-      (
+      let free : is_holding me.0.stage ≡ 0 = ap is_holding ready.idle in (
         staged me.0 Waits,
         keeps,
         tt,
@@ -345,8 +342,7 @@ module _ {V S R E F : Type 0} (m : Meaning V S R E F) where
       let part = total_part (λ (u : K). is_waiting u.stage) s.views id me.0 at in
       let word : get_or s.words 1 0 ≡ total (λ (u : K). is_waiting u.stage) s.views = ap (λ ws. get_or ws 1 0) r.words in
       let awake : is_waiting me.0.stage ≡ 1 = ap is_waiting waits in
-      let free : is_holding me.0.stage ≡ 0 = ap is_holding waits in
-      (
+      let free : is_holding me.0.stage ≡ 0 = ap is_holding waits in (
         staged me.0 Idle,
         keeps,
         tt,

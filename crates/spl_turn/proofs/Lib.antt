@@ -4,3 +4,4 @@ pub mod Keeps
 pub mod Making
 pub mod Gathering
 pub mod Joining
+pub mod Crossing

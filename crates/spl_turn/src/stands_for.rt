@@ -4,6 +4,7 @@ ghost use Rattle.spl_turn.specs.Meaning.{Meaning, MayStep};
 /// A value that stands for a record of the steps that were made on it.
 pub trait StandsFor: Drop {
     type Step;
+
     type Reply;
     /// An entry of the record. No value of it is made.
     type Entry;

@@ -134,9 +134,7 @@ impl<V: StandsFor> Turn<V> {
         ensures turn { (place.new.table_id ≡ place.old.table_id) × (place.new.id ≡ place.old.id) }
         ensures added { Added V.means place.old.me place.new.me }
     {
-        self.table
-            .shared
-            .fetch_add::<Leave<V>>(place, HISTORY, 1);
+        self.table.shared.fetch_add::<Leave<V>>(place, HISTORY, 1);
         self.wake();
     }
 

@@ -21,17 +21,20 @@ struct Raise;
 
 impl StandsFor for Counter {
     type Step = Raise;
+
     type Reply = u64;
+
     type Entry = u32;
+
     type Fixed = ();
 
     ghost means = { record {
-        stands = λ counter past. counter.count ≡ length past;
-        may = λ actor mine step. Unit {0};
-        entry = λ before actor step reply after. actor;
-        maker = λ actor. actor;
-        made_by = λ before actor step reply after. refl;
-        fixed = λ counter. tt;
+      stands = λ counter past. counter.count ≡ length past;
+      may = λ actor mine step. Unit {0};
+      entry = λ before actor step reply after. actor;
+      maker = λ actor. actor;
+      made_by = λ before actor step reply after. refl;
+      fixed = λ counter. tt;
     } };
 
     fn step(&mut self, _actor: u32, _step: Raise) -> u64 {
@@ -77,13 +80,6 @@ fn rises<R: Wait>(rt: &R, turn: &Turn<Counter>, seat: &mut SeatOf<Counter>, turn
     rose
 }
 
-/// A thread's seat, and whether its replies rose.
-#[derive(Drop)]
-struct Runner {
-    seat: SeatOf<Counter>,
-    rose: bool,
-}
-
 #[test]
 fn there_are_thirty_two_seats(rt: HostRuntime) -> Result<(), Fail> {
     let (turn, mut first, others) = seated(&rt, rt.alloc(), 32);
@@ -127,28 +123,24 @@ fn two_seats_count_together(rt: HostRuntime) -> Result<(), Fail> {
     Ok(())
 }
 
-/// Makes turns with all seats at the same time.
-fn run_all<R: Threads + Wait + Sync>(rt: &R, turn: &Turn<Counter>, runners: &mut [Runner])
-    requires { All (λ runner. IsSeatOf turn.now runner.seat × (runner.seat.turns ≡ 0)) runners.old }
+/// Makes turns with all seats at the same time, each in a thread.
+fn run_all<R: Threads + Wait + Abort + Sync>(
+    rt: &R,
+    turn: &Turn<Counter>,
+    seats: &mut [SeatOf<Counter>],
+)
+    requires { All (λ seat. IsSeatOf turn.now seat × (seat.turns ≡ 0)) seats.old }
 {
-    let run = |_place: usize, runner: &mut Runner|
-        requires { IsSeatOf turn.now runner.now.seat × (runner.now.seat.turns ≡ 0) }
-    { runner.rose = rises(rt, turn, &mut runner.seat, 10_000) };
-    thread::for_each_mut(rt, runners, 8, &run);
+    let run = |_place: usize, seat: &mut SeatOf<Counter>|
+        requires { IsSeatOf turn.now seat.now × (seat.now.turns ≡ 0) }
+    { assert!(rt; rises(rt, turn, seat, 10_000)) };
+    thread::for_each_mut(rt, seats, 8, &run);
 }
 
 #[test]
 fn eight_threads_count_together(rt: HostRuntime) -> Result<(), Fail> {
-    let (turn, first, others) = seated(&rt, rt.alloc(), 8);
-    let mut runners = Vec::new(rt.alloc());
-    runners.push(Runner {
-        seat: first,
-        rose: false,
-    })?;
-    for seat in others {
-        runners.push(Runner { seat, rose: false })?;
-    }
-    run_all(&rt, &turn, runners.as_mut_slice());
-    assert!(rt; runners.iter().all(|runner| runner.rose));
+    let (turn, mut first, mut others) = seated(&rt, rt.alloc(), 9);
+    run_all(&rt, &turn, others.as_mut_slice());
+    assert_eq!(rt; turn.turn(&rt, &mut first, Raise), 80_001);
     Ok(())
 }
