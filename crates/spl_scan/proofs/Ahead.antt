@@ -1,13 +1,11 @@
 -- What is still to come of a scan: a search of what is ahead finds the first of it.
-use Rattle.std.proofs.Common.{◌≡◌, ℕ, zero, suc, ◌+◌, ◌<◌, ◌≤◌, Bool, true, false, ◌&&◌, cond, not, List, [], ◌∷◌, ◌++◌, length, map, take, drop, filter, flat_map, Option, Some, None, Ordering, refl, ap, ◌∙◌, sym, subst, arith, take-append-drop}
+use Rattle.std.proofs.Common.{◌≡◌, ℕ, zero, suc, ◌+◌, Bool, true, false, ◌&&◌, cond, not, List, [], ◌∷◌, ◌++◌, drop, Option, Some, None, Ordering, refl, ap, ◌∙◌, sym, subst, arith}
 use Rattle.std.proofs.lemmas.Bool.{false≢true}
 use Rattle.std.proofs.lemmas.Cmp.{nat_list_cmp_total, tied_itself}
-use Rattle.std.proofs.lemmas.Grind.{flat_map-append}
-use Rattle.std.proofs.lemmas.List.Elements.{filter-append}
 use Rattle.std.proofs.lemmas.Map.Keys.{sorted_head, sorted_tail}
-use Rattle.std.specs.declared.cmp.Ordering.TheVariants.{Less, Equal, Greater}
+use Rattle.std.specs.declared.cmp.Ordering.TheVariants.{Less}
 use Rattle.std.specs.Cmp.Lexicographic.{slice_cmp}
-use Rattle.std.specs.List.{AllByRecursion, list_all, slice_get}
+use Rattle.std.specs.List.{AllByRecursion, slice_get}
 use Rattle.std.specs.Map.{keys_of}
 use Rattle.std.specs.Ordering.{nat_cmp, is_lt}
 use Rattle.spl_message.specs.declared.message.Message.{Message}
@@ -15,10 +13,9 @@ use Rattle.spl_message.specs.declared.span.Span.{Span}
 use Rattle.spl_message.specs.Entries.{Entries, AreEntries}
 use Rattle.spl_message.specs.Key.{is_below}
 use Rattle.spl_message.specs.Span.{in_span, is_before, is_from}
-use Rattle.spl_message.proofs.Spans.{below_from, below_trans, both_true}
-use Rattle.spl_branch.specs.Leaves.{are_below}
+use Rattle.spl_message.proofs.Spans.{below_trans}
 use Rattle.spl_scan.specs.Scan.{IsAhead}
-use Rattle.spl_scan.specs.Search.{Found, found, is_after, is_next, over, past, search, to_come}
+use Rattle.spl_scan.specs.Search.{found, is_after, is_next, over, past, search, to_come}
 
 abbrev R : List ℕ → List ℕ → Ordering
 R = slice_cmp nat_cmp

@@ -1,26 +1,25 @@
 -- Where a scan stands: at its begin, after a look at the page at hand, and at the next page.
-use Rattle.std.proofs.Common.{◌≡◌, ℕ, zero, suc, ◌+◌, ◌<◌, ◌≤◌, Bool, true, false, ◌&&◌, cond, not, List, [], ◌∷◌, ◌++◌, length, map, take, drop, filter, flat_map, Option, Some, None, refl, ap, ◌∙◌, sym, subst, arith, take-append-drop}
+use Rattle.std.proofs.Common.{◌≡◌, ℕ, zero, suc, ◌+◌, ◌≤◌, Bool, true, false, ◌&&◌, cond, not, List, [], ◌∷◌, ◌++◌, map, take, drop, flat_map, Option, Some, None, refl, ap, ◌∙◌, sym, subst, arith, take-append-drop}
 use Rattle.std.proofs.lemmas.Bool.{false≢true}
 use Rattle.std.proofs.lemmas.Grind.{flat_map-append}
 use Rattle.std.proofs.lemmas.Map.Keys.{sorted_tail}
 use Rattle.std.specs.Arc.{arc_value}
 use Rattle.std.specs.declared.sync.Arc.{Arc}
 use Rattle.std.specs.Cmp.Lexicographic.{slice_cmp}
-use Rattle.std.specs.List.{list_all, slice_get}
+use Rattle.std.specs.List.{slice_get}
 use Rattle.std.specs.Map.{keys_of}
 use Rattle.std.specs.Ordering.{nat_cmp}
 use Rattle.spl_message.specs.declared.message.Message.{Message}
 use Rattle.spl_message.specs.declared.span.Span.{Span}
 use Rattle.spl_message.specs.Entries.{Entries, AreEntries}
 use Rattle.spl_message.specs.Key.{is_below}
-use Rattle.spl_message.specs.Span.{in_span, is_before, is_from}
+use Rattle.spl_message.specs.Span.{is_before, is_from}
 use Rattle.spl_page.specs.declared.any_page.AnyPage.{AnyPage}
 use Rattle.spl_page.specs.AnyPage.{shown_of}
 use Rattle.spl_page.specs.Tables.{leaf_table}
 use Rattle.spl_branch.specs.Branch.{Branch, entries_in}
 use Rattle.spl_branch.specs.Leaves.{are_below, leaf_tables}
-use Rattle.spl_scan.specs.declared.met.Met.{Met}
-use Rattle.spl_scan.specs.declared.met.Met.TheVariants.{Entry, Past, Over}
+use Rattle.spl_scan.specs.declared.met.Met.TheVariants.{Entry, Past}
 use Rattle.spl_scan.specs.Scan.{Gives, IsAhead, Looks, SamePlace, Scan, Stands, left_of, pages_from, rest_of}
 use Rattle.spl_scan.specs.Search.{IsMet, found, is_after, is_next, over, past, search, to_come}
 use Rattle.spl_scan.proofs.Ahead.{search_found, search_next, search_over, search_past, steps_to}

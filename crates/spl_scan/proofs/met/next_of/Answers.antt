@@ -1,7 +1,7 @@
-use Rattle.std.proofs.Common.{◌≡◌, ℕ, List, drop, ◌+◌, false, true, ap, sym, subst, ◌∙◌, refl}
+use Rattle.std.proofs.Common.{◌≡◌, ℕ, List, drop, ◌+◌, false, true, ap, sym, ◌∙◌}
 use Rattle.spl_message.specs.declared.message.Message.{Message}
 use Rattle.spl_message.specs.Span.{is_before}
-use Rattle.spl_page.specs.Lent.{entry_lent, message_lent}
+use Rattle.spl_page.specs.Lent.{entry_lent}
 use Rattle.spl_page.specs.Tables.{leaf_table}
 use Rattle.spl_scan.specs.Search.{found, is_next}
 use Rattle.spl_scan.proofs.Ahead.{met_found, met_other, met_past, not_false, not_true}

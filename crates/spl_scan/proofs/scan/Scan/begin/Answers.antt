@@ -1,4 +1,4 @@
-use Rattle.std.proofs.Common.{◌≡◌, ◌≤◌, ◌+◌, ◌-◌, cond, ℕ, ap, sym, subst, ◌∙◌, arith}
+use Rattle.std.proofs.Common.{◌≡◌, ◌≤◌, ◌+◌, ◌-◌, cond, ap, sym, subst, arith}
 use Rattle.spl_branch.specs.Pages.{page_total}
 use Rattle.spl_scan.specs.Scan.{Scan, unread}
 use Rattle.spl_scan.proofs.scan.Scan.begin.Goals as goal

@@ -1,4 +1,4 @@
-use Rattle.std.proofs.Common.{◌≡◌, Some, true, ap, sym, subst, ◌∙◌}
+use Rattle.std.proofs.Common.{◌≡◌, Some, true, ap, subst, ◌∙◌}
 use Rattle.spl_scan.specs.declared.met.Met.TheVariants.{Entry, Past}
 use Rattle.spl_page.specs.AnyPage.{shown_of}
 use Rattle.spl_page.specs.Tables.{leaf_table}

@@ -1,4 +1,4 @@
-use Rattle.std.proofs.Common.{◌≡◌, Option, List, ℕ, Some, true, flat_map, take, ap, sym, subst, ◌∙◌}
+use Rattle.std.proofs.Common.{◌≡◌, true, flat_map, take, sym, subst}
 use Rattle.std.specs.Result.{IfOk}
 use Rattle.spl_message.specs.Entries.{Entries, AreEntries}
 use Rattle.spl_branch.specs.Branch.{Branch, entries_in}
