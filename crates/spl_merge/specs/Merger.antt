@@ -15,8 +15,8 @@ use Rattle.spl_merge.specs.declared.step.Step.TheVariants.{Entry, Dropped, Ended
 abbrev pub Head : Type 0
 Head = Option (List ℕ × Message)
 
--- the head of each stream, the streams whose next entry has to be given, the key of the latest step, and whether a step ran out of
--- memory
+-- the head of each stream, the streams whose next entry has to be given, the key of the latest step, and whether a step
+-- ran out of memory
 pub record Merger : Type 0 where
   pub span : Span
   pub bottom : Bool
@@ -35,7 +35,9 @@ abbrev pub at_key : ℕ → List ℕ → List Head → List (ℕ × Message)
 at_key stream key [] = []
 at_key stream key (None ∷ heads) = at_key (suc stream) key heads
 at_key stream key (Some entry ∷ heads) =
-    if same_key entry.0 key then (stream, entry.1) ∷ at_key (suc stream) key heads else at_key (suc stream) key heads
+    if same_key entry.0 key
+    then (stream, entry.1) ∷ at_key (suc stream) key heads
+    else at_key (suc stream) key heads
 
 -- the streams without a head; they are numbered from this number on
 abbrev pub headless : ℕ → List Head → List ℕ
@@ -70,15 +72,23 @@ streams_at key heads = map (λ head. head.0) (at_key 0 key heads)
 
 -- what the merge keeps of the heads of the key
 abbrev pub kept_at : Rule → Merger → List ℕ → Option Message
-kept_at rule merger key = if in_span merger.span key then kept rule merger.bottom key (combine_all rule key (messages_at key merger.heads)) else None
+kept_at rule merger key =
+    if in_span merger.span key then kept rule merger.bottom key (combine_all rule key (messages_at key merger.heads)) else None
 
 -- the heads of the key are taken, and the next entries of their streams have to be given
 abbrev pub taken_at : List ℕ → Merger → Merger
-taken_at key merger = record merger { heads = without key merger.heads; wanted = merger.wanted ++ streams_at key merger.heads }
+taken_at key merger = record merger {
+  heads = without key merger.heads;
+  wanted = merger.wanted ++ streams_at key merger.heads;
+}
 
 -- the merger behind a step at the key
 abbrev pub behind : List ℕ → Merger → Merger
-behind key merger = record merger { heads = without key merger.heads; wanted = streams_at key merger.heads; last = Some key }
+behind key merger = record merger {
+  heads = without key merger.heads;
+  wanted = streams_at key merger.heads;
+  last = Some key;
+}
 
 -- the answer where this is kept of the key
 abbrev pub answer_of : List ℕ → Option Message → Step
@@ -88,6 +98,8 @@ answer_of key (Some message) = Entry key message
 -- a step ends where no stream has a head; else it takes the heads of the least key, and answers what is kept of them
 abbrev pub Steps : {E : Type 0} → Rule → Merger → Result Step E → Merger → Type 0
 Steps rule old (Ok Ended) new = AllByRecursion (λ head. head ≡ None) old.heads × (new ≡ old)
-Steps rule old (Ok Dropped) new = (key : List ℕ) × IsLeast key old.heads × (kept_at rule old key ≡ None) × (new ≡ behind key old)
-Steps rule old (Ok (Entry key message)) new = IsLeast key old.heads × (kept_at rule old key ≡ Some message) × (new ≡ behind key old)
+Steps rule old (Ok Dropped) new =
+    (key : List ℕ) × IsLeast key old.heads × (kept_at rule old key ≡ None) × (new ≡ behind key old)
+Steps rule old (Ok (Entry key message)) new =
+    IsLeast key old.heads × (kept_at rule old key ≡ Some message) × (new ≡ behind key old)
 Steps rule old (Err error) new = new.failed ≡ true

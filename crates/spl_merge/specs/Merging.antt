@@ -25,7 +25,8 @@ left_of (head ∷ heads) (entries ∷ following) = as_table (option_to_list head
 -- the merge of the tables is what was built and behind it the merge of what is left of them
 abbrev pub IsMergedSoFar : Rule → List Table → Span → Bool → Entries → List Table → Type 0
 IsMergedSoFar rule tables span bottom built left =
-    (rest : Entries) → IsMerged rule left span bottom (as_table rest) → IsMerged rule tables span bottom (as_table (built ++ rest))
+    (rest : Entries) → IsMerged rule left span bottom (as_table rest) →
+    IsMerged rule tables span bottom (as_table (built ++ rest))
 
 -- what a step adds to what was built
 abbrev pub built_by : Step → Entries

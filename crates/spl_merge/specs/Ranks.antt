@@ -35,11 +35,14 @@ pub record AreQueued (heads : List Head) (wanted : List ℕ) (last : Option (Lis
 -- the head's rank comes into the queue, where there is a head
 pub record QueuesHead (stream : ℕ) (head : Head) (old new : List (Reverse Rank)) : Type 0 where
   pub order : IsQueue old → IsQueue new
-  pub ranked : (test : Rank → Bool) → count_by (λ rank. test rank.0) new ≡ count_by test (ranks stream (head ∷ [])) + count_by (λ rank. test rank.0) old
+  pub ranked : (test : Rank → Bool) →
+      count_by (λ rank. test rank.0) new ≡ count_by test (ranks stream (head ∷ [])) + count_by (λ rank. test rank.0) old
 
 -- the head of the oldest stream that has the key is taken
 pub record Takes (key : List ℕ) (old : Merger) (message : Message) (new : Merger) : Type 0 where
-  pub taken : (stream : ℕ) × (at_key 0 key old.heads ≡ (stream, message) ∷ at_key 0 key new.heads) × (new.wanted ≡ old.wanted ++ stream ∷ [])
+  pub taken : (stream : ℕ)
+      × (at_key 0 key old.heads ≡ (stream, message) ∷ at_key 0 key new.heads)
+      × (new.wanted ≡ old.wanted ++ stream ∷ [])
   pub others : without key new.heads ≡ without key old.heads
   pub least : AreFrom key new.heads
   pub rest : new ≡ record old { heads = new.heads; wanted = new.wanted }

@@ -16,7 +16,7 @@ use std::cmp::Reverse;
 use std::collections::BinaryHeap;
 use std::marker::Model;
 
-/// The place of a head among the others: heads are taken by their keys, and those of one key from the oldest stream on.
+/// The order in which heads are taken: by key, and for one key from the oldest stream to the newest.
 #[derive(Clone, Copy, Debug, PartialEq, Eq, PartialOrd, Ord)]
 pub(crate) struct Rank {
     key: Key,
@@ -59,8 +59,8 @@ impl Model for Merger {
 }
 
 impl Merger {
-    /// A merge of this many streams: of the keys of the span, and at the bottom where nothing older lies below. Each stream's first
-    /// entry has to be given.
+    /// A merge of this many streams over the keys of a span. `bottom` says that nothing older lies below, so deletes
+    /// are dropped and a kept message is an insert. The first entry of each stream has to be given.
     pub fn new(alloc: Global, span: &Span, bottom: bool, streams: u32) -> Result<Merger, NoMemory>
         ensures { IfOk result (λ merger. merger ≡ record {
           span = span.now;
@@ -111,14 +111,15 @@ impl Merger {
         self.heads[stream as usize] = entry;
     }
 
-    /// Takes the heads of the least key, and answers what the merge keeps of them. Only updates take memory. Where there is too
-    /// little of it the merger has failed, and fails from then on.
+    /// Takes the heads of the least key, and returns what the merge keeps of them. Only updates take memory. After a
+    /// failed allocation the merger has failed, and each later step fails.
     pub fn step<L: MergeLaw>(&mut self, law: &L) -> Result<Step, NoMemory>
         requires ready { L.ready law.now }
         requires given { self.old.wanted ≡ [] }
         ensures step { self.old.failed ≡ false → Steps (L.rule law.now) self.old result self.new }
         ensures merged { self.old.failed ≡ false → (following : List Entries) → AreStreams self.old.heads following →
-            IfOk result (λ step. IsMergedSoFar (L.rule law.now) (left_of self.old.heads following) self.old.span self.old.bottom
+            IfOk result (λ step. IsMergedSoFar (L.rule law.now) (left_of self.old.heads following)
+            self.old.span self.old.bottom
             (built_by step) (left_of self.new.heads following)) }
         ensures failed { self.old.failed ≡ true → IsErr result × (self.new ≡ self.old) }
     {
@@ -222,7 +223,8 @@ fn add<L: MergeLaw>(
     newer: Message,
 ) -> Result<Option<Message>, NoMemory>
     requires { L.ready law.now }
-    ensures ok { IfOk result (λ found. IfOk older (λ before. found ≡ joined_with (L.rule law.now) key.now before newer)) }
+    ensures ok { IfOk result (λ found. IfOk older (λ before.
+        found ≡ joined_with (L.rule law.now) key.now before newer)) }
     ensures err { OnErr older (IsErr result) }
 {
     match older? {

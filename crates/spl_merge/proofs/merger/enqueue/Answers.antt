@@ -14,7 +14,8 @@ returns-in-Some-clause-queued c =
     let old = heap_items c.args.queue.now in
     let new = heap_items c.push.new.self in
     let rank : Reverse Rank = record { 0 = record { key = c.in-Some.key; stream = c.args.stream } } in
-    let permutation = subst (λ r. OnOk r (IsPermutation (rank ∷ old) new)) c.unwrap.ensures c.push.ensures.permutation in
+    let permutation = subst (λ r. OnOk r (IsPermutation (rank ∷ old) new)) c.unwrap.ensures
+    c.push.ensures.permutation in
     let order = subst (λ r. OnOk r (IsQueue old → IsQueue new)) c.unwrap.ensures c.push.ensures.heap_order in
     subst (λ (head : Head). QueuesHead c.args.stream head old new) (sym c.in-Some.is)
     (queues_head c.args.stream rank (c.in-Some.key, c.in-Some.field-0-1) old new refl order permutation)

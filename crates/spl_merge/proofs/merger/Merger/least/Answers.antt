@@ -9,9 +9,11 @@ use Rattle.spl_merge.proofs.merger.Merger.least.Goals as goal
 pub returns-in_err-top-clause-none : goal.returns-in_err-top-clause-none
 returns-in_err-top-clause-none c =
     let m = c.self.inside in
-    let none : length (heap_items m.queue) ≡ 0 = is_empty (heap_items m.queue) m.queue.data.len m.queue.data.ok.0 c.in_err-top.ensures.variant in
+    let none : length (heap_items m.queue) ≡ 0 = is_empty (heap_items m.queue) m.queue.data.len
+    m.queue.data.ok.0 c.in_err-top.ensures.variant in
     let all = empty_queue m.heads.items m.wanted.items m.last (heap_items m.queue) c.self.invariant.0 none in
-    subst (λ (result : Option (List ℕ)). IfNone result (AllByRecursion (λ (head : Head). head ≡ None) c.args.self.now.heads)) (sym c.from_residual.ensures)
+    subst (λ (result : Option (List ℕ)). IfNone result
+    (AllByRecursion (λ (head : Head). head ≡ None) c.args.self.now.heads)) (sym c.from_residual.ensures)
     (subst (λ (s : Merger). AllByRecursion (λ (head : Head). head ≡ None) s.heads) c.self.view_is all)
 
 pub returns-clause-some : goal.returns-clause-some
@@ -22,7 +24,13 @@ returns-clause-some c =
     let some : 0 < length queue = omega (arith, c.in_ok-top.ensures.variant.0 refl, m.queue.data.ok.0) in
     let greatest = c.in_ok-top.ensures.greatest c.self.invariant.0.order in
     let least : IsLeast top.0.key m.heads.items = record {
-      there = (_, _, top_at m.heads.items m.wanted.items m.last queue c.self.invariant.0 top some c.in_ok-top.ensures.lookup greatest);
-      least = top_from m.heads.items m.wanted.items m.last queue c.self.invariant.0 top some c.in_ok-top.ensures.lookup greatest;
+      there = (
+        _,
+        _,
+        top_at m.heads.items m.wanted.items m.last queue c.self.invariant.0 top some
+            c.in_ok-top.ensures.lookup greatest,
+      );
+      least = top_from m.heads.items m.wanted.items m.last queue c.self.invariant.0 top some
+          c.in_ok-top.ensures.lookup greatest;
     } in
     subst (λ (s : Merger). IsLeast top.0.key s.heads) c.self.view_is least
