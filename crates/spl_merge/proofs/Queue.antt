@@ -387,6 +387,13 @@ module _ (heads : List Head) (wanted : List ℕ) (last : Option (List ℕ)) (que
         at_key-first 0 top_placed.0 rank.0 heads top_placed.1 top_first top_placed.2 top_placed.3 top_placed.4
         ∙ ap (λ i. (rank.0.stream, top_placed.1.1) ∷ at_key 0 rank.0.key (slice_set heads i None)) (sym at)
 
+    -- its key is above the latest one, as every head's is
+    pub top_above : IsAbove last rank.0.key
+    top_above =
+        subst (IsAbove last) top_placed.3
+        (at_place (λ head. IfSome head (λ entry. IsAbove last entry.0)) top_placed.0 heads
+        (Some top_placed.1) top_placed.2 queued.above)
+
     from_top : (key : List ℕ) → AreFrom key heads → is_below rank.0.key key ≡ false
     from_top key from =
         let here : is_below top_placed.1.0 key ≡ false =

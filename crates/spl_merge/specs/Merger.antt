@@ -95,11 +95,16 @@ abbrev pub answer_of : List ℕ → Option Message → Step
 answer_of key None = Dropped
 answer_of key (Some message) = Entry key message
 
+-- a step is at this key: the least that a head has, and above the key of the step before
+pub record IsStep (key : List ℕ) (merger : Merger) : Type 0 where
+  pub least : IsLeast key merger.heads
+  pub above : IsAbove merger.last key
+
 -- a step ends where no stream has a head; else it takes the heads of the least key, and answers what is kept of them
 abbrev pub Steps : {E : Type 0} → Rule → Merger → Result Step E → Merger → Type 0
 Steps rule old (Ok Ended) new = AllByRecursion (λ head. head ≡ None) old.heads × (new ≡ old)
 Steps rule old (Ok Dropped) new =
-    (key : List ℕ) × IsLeast key old.heads × (kept_at rule old key ≡ None) × (new ≡ behind key old)
+    (key : List ℕ) × IsStep key old × (kept_at rule old key ≡ None) × (new ≡ behind key old)
 Steps rule old (Ok (Entry key message)) new =
-    IsLeast key old.heads × (kept_at rule old key ≡ Some message) × (new ≡ behind key old)
+    IsStep key old × (kept_at rule old key ≡ Some message) × (new ≡ behind key old)
 Steps rule old (Err error) new = new.failed ≡ true

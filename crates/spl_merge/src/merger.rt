@@ -5,7 +5,7 @@ ghost use Rattle.spl_message.specs.Entries.{Entries};
 ghost use Rattle.spl_message.specs.Message.{combine_all};
 ghost use Rattle.spl_message.specs.Span.{in_span};
 ghost use Rattle.spl_message.specs.Table.{kept};
-ghost use Rattle.spl_merge.specs.Merger.{AreFrom, IsAbove, IsLeast, Steps, answer_of, at_key, headless, kept_at, messages_at, taken_at};
+ghost use Rattle.spl_merge.specs.Merger.{AreFrom, IsAbove, IsStep, Steps, answer_of, at_key, headless, kept_at, messages_at, taken_at};
 ghost use Rattle.spl_merge.specs.Ranks.{QueuesHead, Takes, joined_with};
 ghost use Rattle.spl_merge.specs.Merging.{AreStreams, IsMergedSoFar, built_by, left_of};
 
@@ -136,7 +136,7 @@ impl Merger {
 
     /// The least key that a head has.
     fn least(&self) -> Option<Key>
-        ensures some { IfSome result (λ key. IsLeast key self.now.heads) }
+        ensures some { IfSome result (λ key. IsStep key self.now) }
         ensures none { IfNone result (AllByRecursion (λ head. head ≡ None) self.now.heads) }
     {
         let top = self.queue.peek()?;

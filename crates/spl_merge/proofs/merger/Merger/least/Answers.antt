@@ -2,8 +2,8 @@ use Rattle.std.proofs.Common.{◌≡◌, ◌<◌, None, Option, ℕ, List, lengt
 use Rattle.std.specs.BinaryHeap.{heap_items}
 use Rattle.std.specs.List.{AllByRecursion}
 use Rattle.std.specs.Option.{IfNone}
-use Rattle.spl_merge.specs.Merger.{Head, IsLeast, Merger}
-use Rattle.spl_merge.proofs.Queue.{empty_queue, is_empty, top_at, top_from}
+use Rattle.spl_merge.specs.Merger.{Head, IsLeast, IsStep, Merger}
+use Rattle.spl_merge.proofs.Queue.{empty_queue, is_empty, top_above, top_at, top_from}
 use Rattle.spl_merge.proofs.merger.Merger.least.Goals as goal
 
 pub returns-in_err-top-clause-none : goal.returns-in_err-top-clause-none
@@ -33,4 +33,15 @@ returns-clause-some c =
       least = top_from m.heads.items m.wanted.items m.last queue c.self.invariant.0 top some
           c.in_ok-top.ensures.lookup greatest;
     } in
-    subst (λ (s : Merger). IsLeast top.0.key s.heads) c.self.view_is least
+    let above = top_above m.heads.items m.wanted.items m.last queue c.self.invariant.0 top some
+    c.in_ok-top.ensures.lookup greatest in
+    let shown : Merger = record {
+      span = m.span;
+      bottom = m.bottom;
+      heads = m.heads.items;
+      wanted = m.wanted.items;
+      last = m.last;
+      failed = m.failed;
+    } in
+    let step : IsStep top.0.key shown = record { least = least; above = above } in
+    subst (IsStep top.0.key) c.self.view_is step

@@ -13,7 +13,7 @@ pass-requires g c =
     let key = c.in-Some.key in
     subst (λ (m : Merger). AllByRecursion (λ head. IfSome head (λ entry. IsAbove (Some key) entry.0)) m.heads)
     (sym c.take_key-message.ensures.taken)
-    (passed_above key c.args.self.now.heads c.in-Some.ensures.some.least)
+    (passed_above key c.args.self.now.heads c.in-Some.ensures.some.least.least)
 
 pub returns-clause-merged : goal.returns-clause-merged
 returns-clause-merged g c = λ sound following streams.
@@ -27,5 +27,5 @@ returns-clause-merged g c = λ sound following streams.
     c.take_key-message.ensures.kept in
     subst (λ (step : Step). IsMergedSoFar rule (left_of old.heads following) old.span old.bottom
     (built_by step) (left_of c.pass.new.self.heads following)) (sym c.answer.ensures)
-    (merged_answer rule old c.pass.new.self key c.in_ok-message.field-0 c.in-Some.ensures.some kept is
+    (merged_answer rule old c.pass.new.self key c.in_ok-message.field-0 c.in-Some.ensures.some.least kept is
     following streams)
