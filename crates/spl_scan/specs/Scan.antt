@@ -15,8 +15,8 @@ use Rattle.spl_scan.specs.declared.met.Met.{Met}
 use Rattle.spl_scan.specs.declared.met.Met.TheVariants.{Entry, Past, Over}
 use Rattle.spl_scan.specs.Search.{is_next, over, search, to_come}
 
--- its branch and its span, the key that it gave last, whether it knows where the span begins, how many leaf pages it has read or
--- skipped, and the entries of the page at hand that it has not looked at
+-- its branch and its span, the key that it gave last, whether it knows where the span begins, how many leaf pages it has
+-- read or skipped, and the entries of the page at hand that it has not looked at
 pub record Scan : Type 0 where
   pub branch : Branch
   pub span : Span
@@ -61,7 +61,8 @@ unread scan = scan.branch.leaves - scan.pages + (if scan.begun then 0 else page_
 pub record Stands (tells : Bool) (scan : Scan) : Type 0 where
   pub within : scan.pages ≤ scan.branch.leaves
   pub fresh : scan.begun ≡ false → (scan.here ≡ []) × (scan.pages ≡ 0)
-  pub told : tells ≡ true → scan.begun ≡ true → IsAhead scan.span scan.last (entries_in scan.branch) (scan.here ++ pages_from scan.branch scan.pages)
+  pub told : tells ≡ true → scan.begun ≡ true →
+      IsAhead scan.span scan.last (entries_in scan.branch) (scan.here ++ pages_from scan.branch scan.pages)
 
 -- the same entries are still to come
 pub record SamePlace (old new : Scan) : Type 0 where

@@ -31,10 +31,13 @@ pub data Found : Type 0 where
 abbrev pub search : Span → Option (List ℕ) → Entries → Found
 search span last [] = over
 search span last (entry ∷ entries) =
-    if is_before span.to entry.0 then (if is_next span last entry.0 then found entry entries else search span last entries) else past
+    if is_before span.to entry.0
+    then (if is_next span last entry.0 then found entry entries else search span last entries)
+    else past
 
 -- this was met from a place of the table on
 abbrev pub IsMet : Span → Option (List ℕ) → Entries → ℕ → Met → Type 0
-IsMet span last table place (Entry key message next) = search span last (drop place table) ≡ found (key, message) (drop next table)
+IsMet span last table place (Entry key message next) =
+    search span last (drop place table) ≡ found (key, message) (drop next table)
 IsMet span last table place Past = search span last (drop place table) ≡ past
 IsMet span last table place Over = search span last (drop place table) ≡ over

@@ -16,7 +16,8 @@ use std::alloc::Global;
 use std::marker::Model;
 use std::sync::Arc;
 
-/// The entries of a branch that lie in a span, one after the other. A clause sees what is still to come (`left_of`).
+/// The entries of a branch that lie in a span, one after the other. Clauses see what is still to come (`left_of`) and how
+/// many pages it may still read (`unread`).
 #[derive(Drop)]
 pub struct Scan<S: Seal> {
     alloc: Global,
@@ -61,12 +62,12 @@ impl<S: Seal> Scan<S> {
     /// A scan of the span, which owns its share of the branch. Takes no memory.
     pub fn new(alloc: Global, branch: Arc<Branch<S>>, span: &Span) -> Scan<S>
         ensures { result ≡ record {
-            branch = branch.value;
-            span = span.now;
-            last = None;
-            begun = false;
-            pages = 0;
-            here = [];
+          branch = branch.value;
+          span = span.now;
+          last = None;
+          begun = false;
+          pages = 0;
+          here = [];
         } }
     {
         Scan {
@@ -81,7 +82,8 @@ impl<S: Seal> Scan<S> {
         }
     }
 
-    /// The next entry of the span, or `None` at the end. After an error the scan stands where it stood.
+    /// The next entry of the span, or `None` at the end. After an error the scan stands where it stood. All calls together
+    /// read each leaf page at most once, beside the pages on the way to the first one.
     pub fn next<P: Port<Seal = S>, G: Pager>(
         &mut self,
         port: &mut P,
@@ -90,10 +92,12 @@ impl<S: Seal> Scan<S> {
         ensures told { S.TELLS ≡ true → IfOk result (λ given. Gives self.old given self.new) }
 
         // On every device.
-        ensures rises { IfOk result (λ given. IfSome given (λ entry. is_next self.old.span self.old.last entry.0 ≡ true)) }
+        ensures rises { IfOk result (λ given. IfSome given (λ entry.
+            is_next self.old.span self.old.last entry.0 ≡ true)) }
         ensures ok { IfOk result (λ given. GoesOn self.old given self.new) }
         ensures err { OnErr result (SamePlace self.old self.new) }
-        ensures once { OnOk result ((P.counts port.new).reads + unread self.new ≤ (P.counts port.old).reads + unread self.old) }
+        ensures once { OnOk result (
+            (P.counts port.new).reads + unread self.new ≤ (P.counts port.old).reads + unread self.old) }
         ensures most { (P.counts port.new).reads ≤ (P.counts port.old).reads + unread self.old }
         ensures counts { OnlyReads (P.counts port.old) (P.counts port.new) }
         ensures faults { OnOk result ((P.counts port.new).faults ≡ (P.counts port.old).faults) }
@@ -120,7 +124,8 @@ impl<S: Seal> Scan<S> {
     ) -> Result<(), BranchFault>
         ensures begun { OnOk result (self.new.begun ≡ true) }
         ensures place { SamePlace self.old self.new }
-        ensures once { OnOk result ((P.counts port.new).reads + unread self.new ≤ (P.counts port.old).reads + unread self.old) }
+        ensures once { OnOk result (
+            (P.counts port.new).reads + unread self.new ≤ (P.counts port.old).reads + unread self.old) }
         ensures most { (P.counts port.new).reads ≤ (P.counts port.old).reads + unread self.old }
         ensures counts { OnlyReads (P.counts port.old) (P.counts port.new) }
         ensures faults { OnOk result ((P.counts port.new).faults ≡ (P.counts port.old).faults) }
@@ -185,12 +190,14 @@ impl<S: Seal> Scan<S> {
     ) -> Result<bool, BranchFault>
         requires begun { self.old.begun ≡ true }
         requires over { search self.old.span self.old.last self.old.here ≡ over }
-        ensures turned { result ≡ Ok true → self.new ≡ record self.old { pages = self.old.pages + 1; here = self.new.here } }
+        ensures turned { result ≡ Ok true →
+            self.new ≡ record self.old { pages = self.old.pages + 1; here = self.new.here } }
         ensures less { result ≡ Ok true → unread self.new < unread self.old }
         ensures same { result ≡ Ok false → self.new ≡ self.old }
         ensures ended { S.TELLS ≡ true → result ≡ Ok false → left_of self.old ≡ [] }
         ensures err { OnErr result (self.new ≡ self.old) }
-        ensures once { OnOk result ((P.counts port.new).reads + unread self.new ≤ (P.counts port.old).reads + unread self.old) }
+        ensures once { OnOk result (
+            (P.counts port.new).reads + unread self.new ≤ (P.counts port.old).reads + unread self.old) }
         ensures most { (P.counts port.new).reads ≤ (P.counts port.old).reads + unread self.old }
         ensures counts { OnlyReads (P.counts port.old) (P.counts port.new) }
         ensures faults { OnOk result ((P.counts port.new).faults ≡ (P.counts port.old).faults) }

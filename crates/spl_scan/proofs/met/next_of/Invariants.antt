@@ -4,4 +4,5 @@ use Rattle.spl_scan.specs.Search.{search}
 use Rattle.spl_scan.proofs.met.next_of.Given as goal
 
 abbrev pub invariant-loop-at : goal.invariant-loop-at
-invariant-loop-at l = search l.span l.last (drop l.place (leaf_table l.leaf.bytes)) ≡ search l.span l.last (drop l.at (leaf_table l.leaf.bytes))
+invariant-loop-at l = search l.span l.last (drop l.place (leaf_table l.leaf.bytes)) ≡ search l.span l.last
+    (drop l.at (leaf_table l.leaf.bytes))

@@ -7,7 +7,8 @@ abbrev pub invariant-loop-key : goal.invariant-loop-key
 invariant-loop-key g l = record {
   begun : l.self.begun ≡ true;
   place : SamePlace l.fn.self l.self;
-  once : (g.P.Port.counts l.port).reads + unread l.self ≤ (g.P.Port.counts l.fn.port).reads + unread l.fn.self;
+  once : (g.P.Port.counts l.port).reads + unread l.self ≤ (g.P.Port.counts l.fn.port).reads + unread
+      l.fn.self;
   counts : OnlyReads (g.P.Port.counts l.fn.port) (g.P.Port.counts l.port);
   faults : (g.P.Port.counts l.port).faults ≡ (g.P.Port.counts l.fn.port).faults;
 }
