@@ -1,0 +1,4 @@
+pub mod Queue
+pub mod Joins
+pub mod Merges
+pub mod Runs

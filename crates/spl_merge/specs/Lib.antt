@@ -1,0 +1,3 @@
+pub mod Merger
+pub mod Merging
+pub mod Ranks
