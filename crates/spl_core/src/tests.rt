@@ -6,6 +6,8 @@ use crate::{Core, Step};
 use spl_base::ACTORS;
 use spl_message::{Content, HashedKey, Key, Message, Newest, Span};
 use spl_state::Reply;
+use std::alloc::Global;
+use std::sync::Arc;
 use std::test::Fail;
 
 const EVERYTHING: Span = Span {
@@ -122,4 +124,108 @@ fn a_reader_on_the_root_keeps_a_claim_from_being_a_write(rt: HostRuntime) -> Res
     );
     assert_eq!(rt; core.steps(), 14);
     Ok(())
+}
+
+/// A word for the answer.
+fn word(reply: &Reply<Thin>) -> &'static str {
+    match reply {
+        Reply::Done => "done",
+        Reply::Placed { .. } => "placed",
+        Reply::Rotated => "rotated",
+        Reply::Picked { .. } => "picked",
+        Reply::Ticket(ticket) if ticket.bottom => "ticket at the bottom",
+        Reply::Next { node: 2 } => "next 2",
+        Reply::Busy { by: 1 } => "busy by 1",
+        Reply::NeedsRoom => "needs room",
+        Reply::Moved { .. } => "moved",
+        Reply::Outside => "outside",
+        _ => "something else",
+    }
+}
+
+/// Makes a step, which has to be answered with this word.
+fn expect(
+    core: &mut Core<Thin, Newest>,
+    actor: u32,
+    step: Step<Thin>,
+    wanted: &'static str,
+) -> Result<(), Fail>
+    requires { actor < ACTORS }
+{
+    let reply = make(core, actor, step)?;
+    if word(&reply) == wanted {
+        Ok(())
+    } else {
+        Err(wanted.into())
+    }
+}
+
+/// Takes a claim on the node, and makes it a write.
+fn write(core: &mut Core<Thin, Newest>, actor: u32, node: u32) -> Result<(), Fail>
+    requires { actor < ACTORS }
+{
+    expect(core, actor, Step::Claim { node }, "done")?;
+    expect(core, actor, Step::Lock { node }, "done")
+}
+
+/// Publishes a branch with this number in an extent that the actor is granted.
+fn publish(
+    alloc: Global,
+    core: &mut Core<Thin, Newest>,
+    actor: u32,
+    number: u64,
+) -> Result<(), Fail>
+    requires { actor < ACTORS }
+{
+    let Reply::Granted { extent } = make(core, actor, Step::Grant)? else {
+        return Err("no extent was granted".into());
+    };
+    let thin = Thin {
+        number,
+        extents: [extent],
+    };
+    let branch = Arc::new(alloc, thin)?;
+    expect(core, actor, Step::Publish { branch }, "done")
+}
+
+/// Fills the memtable, freezes it, and hangs its branch, of number 0, at the root, which actor 0 then writes.
+fn hang_one(alloc: Global, core: &mut Core<Thin, Newest>) -> Result<(), Fail> {
+    for number in 0u16..1024 {
+        let key = Key::read(&number.to_be_bytes())?;
+        let message = Message::Delete;
+        expect(core, 0, Step::Put { key, message }, "placed")?;
+    }
+    expect(core, 0, Step::Rotate, "rotated")?;
+    expect(core, 0, Step::PickFrozen, "picked")?;
+    publish(alloc, core, 0, 0)?;
+    write(core, 0, 0)?;
+    expect(core, 0, Step::Incorporate, "done")
+}
+
+#[test]
+fn a_merge_goes_on_in_both_parts_of_a_node_that_was_split(rt: HostRuntime) -> Result<(), Fail> {
+    let mut core = Core::new(rt.alloc(), 2, 1, Newest)?;
+    hang_one(rt.alloc(), &mut core)?;
+    expect(&mut core, 0, Step::Raise, "done")?;
+    expect(&mut core, 0, Step::Unlock { node: 0 }, "done")?;
+    let (node, first, last) = (1, 0, 0);
+    expect(&mut core, 1, Step::Start { node, first, last }, "ticket at the bottom")?;
+    write(&mut core, 0, 0)?;
+    write(&mut core, 0, 1)?;
+    let (parent, child, key) = (0, 1, Key::read(&[2, 0])?);
+    expect(&mut core, 0, Step::Split { parent, child, key }, "done")?;
+    expect(&mut core, 0, Step::Start { node, first, last }, "busy by 1")?;
+    expect(&mut core, 0, Step::Flush { parent: 0, child: 0 }, "moved")?;
+    expect(&mut core, 0, Step::Abandon, "done")?;
+    publish(rt.alloc(), &mut core, 1, 1)?;
+    write(&mut core, 1, 1)?;
+    let output = true;
+    expect(&mut core, 1, Step::Install { node: 1, output }, "next 2")?;
+    expect(&mut core, 1, Step::Unlock { node: 1 }, "done")?;
+    write(&mut core, 1, 2)?;
+    expect(&mut core, 1, Step::Install { node: 2, output }, "done")?;
+
+    // The input's extent is free again.
+    expect(&mut core, 0, Step::Start { node, first, last }, "ticket at the bottom")?;
+    publish(rt.alloc(), &mut core, 0, 2)
 }
