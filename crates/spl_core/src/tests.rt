@@ -202,30 +202,58 @@ fn hang_one(alloc: Global, core: &mut Core<Thin, Newest>) -> Result<(), Fail> {
     expect(core, 0, Step::Incorporate, "done")
 }
 
+/// Asks for the bundle with number 0 of node 1, to merge it.
+fn start(core: &mut Core<Thin, Newest>, actor: u32, wanted: &'static str) -> Result<(), Fail>
+    requires { actor < ACTORS }
+{
+    let (node, first, last) = (1, 0, 0);
+    expect(core, actor, Step::Start { node, first, last }, wanted)
+}
+
+/// Raises the root, and then actor 1 begins to merge in the node below.
+fn raise(core: &mut Core<Thin, Newest>) -> Result<(), Fail> {
+    expect(core, 0, Step::Raise, "done")?;
+    expect(core, 0, Step::Unlock { node: 0 }, "done")?;
+    start(core, 1, "ticket at the bottom")
+}
+
+/// Splits the node below the root, while actor 1 merges.
+fn split(core: &mut Core<Thin, Newest>) -> Result<(), Fail> {
+    write(core, 0, 0)?;
+    write(core, 0, 1)?;
+    let (parent, child, key) = (0, 1, Key::read(&[2, 0])?);
+    expect(core, 0, Step::Split { parent, child, key }, "done")?;
+    start(core, 0, "busy by 1")?;
+    expect(
+        core,
+        0,
+        Step::Flush {
+            parent: 0,
+            child: 0,
+        },
+        "moved",
+    )?;
+    expect(core, 0, Step::Abandon, "done")
+}
+
+/// Installs what actor 1 merged in the node, which is answered so.
+fn install(core: &mut Core<Thin, Newest>, node: u32, wanted: &'static str) -> Result<(), Fail> {
+    write(core, 1, node)?;
+    expect(core, 1, Step::Install { node, output: true }, wanted)?;
+    expect(core, 1, Step::Unlock { node }, "done")
+}
+
 #[test]
 fn a_merge_goes_on_in_both_parts_of_a_node_that_was_split(rt: HostRuntime) -> Result<(), Fail> {
     let mut core = Core::new(rt.alloc(), 2, 1, Newest)?;
     hang_one(rt.alloc(), &mut core)?;
-    expect(&mut core, 0, Step::Raise, "done")?;
-    expect(&mut core, 0, Step::Unlock { node: 0 }, "done")?;
-    let (node, first, last) = (1, 0, 0);
-    expect(&mut core, 1, Step::Start { node, first, last }, "ticket at the bottom")?;
-    write(&mut core, 0, 0)?;
-    write(&mut core, 0, 1)?;
-    let (parent, child, key) = (0, 1, Key::read(&[2, 0])?);
-    expect(&mut core, 0, Step::Split { parent, child, key }, "done")?;
-    expect(&mut core, 0, Step::Start { node, first, last }, "busy by 1")?;
-    expect(&mut core, 0, Step::Flush { parent: 0, child: 0 }, "moved")?;
-    expect(&mut core, 0, Step::Abandon, "done")?;
+    raise(&mut core)?;
+    split(&mut core)?;
     publish(rt.alloc(), &mut core, 1, 1)?;
-    write(&mut core, 1, 1)?;
-    let output = true;
-    expect(&mut core, 1, Step::Install { node: 1, output }, "next 2")?;
-    expect(&mut core, 1, Step::Unlock { node: 1 }, "done")?;
-    write(&mut core, 1, 2)?;
-    expect(&mut core, 1, Step::Install { node: 2, output }, "done")?;
+    install(&mut core, 1, "next 2")?;
+    install(&mut core, 2, "done")?;
 
     // The input's extent is free again.
-    expect(&mut core, 0, Step::Start { node, first, last }, "ticket at the bottom")?;
+    start(&mut core, 0, "ticket at the bottom")?;
     publish(rt.alloc(), &mut core, 0, 2)
 }
