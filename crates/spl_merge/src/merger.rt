@@ -119,8 +119,7 @@ impl Merger {
         ensures step { self.old.failed ≡ false → Steps (L.rule law.now) self.old result self.new }
         ensures merged { self.old.failed ≡ false → (following : List Entries) → AreStreams self.old.heads following →
             IfOk result (λ step. IsMergedSoFar (L.rule law.now) (left_of self.old.heads following)
-            self.old.span self.old.bottom
-            (built_by step) (left_of self.new.heads following)) }
+            self.old.span self.old.bottom (built_by step) (left_of self.new.heads following)) }
         ensures failed { self.old.failed ≡ true → IsErr result × (self.new ≡ self.old) }
     {
         if self.failed {
