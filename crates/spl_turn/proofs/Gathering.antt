@@ -80,8 +80,10 @@ module _ {V S R E F : Type 0} (m : Meaning V S R E F) where
     ),
   )
 
-  pub starts_with : (items : List (Guarded V S R)) (g : Guarded V S R) (value : V) → items ≡ g ∷ [] → value ≡ g.value → m.stands g.value [] → Kept m (table_of (0 ∷ 0 ∷ []) items (opening (m.fixed value)))
-  starts_with items g value is same stands = subst (λ xs. Kept m (table_of (0 ∷ 0 ∷ []) xs (opening (m.fixed value)))) (sym is) (starts g (m.fixed value) stands (ap m.fixed (sym same)))
+  pub starts_with : (items front : List (Guarded V S R)) (g : Guarded V S R) (value : V) → items ≡ front ++ g ∷ [] → front ≡ [] → value ≡ g.value → m.stands g.value []
+      → Kept m (table_of (0 ∷ 0 ∷ []) items (opening (m.fixed value)))
+  starts_with items front g value is empty same stands =
+      subst (λ xs. Kept m (table_of (0 ∷ 0 ∷ []) xs (opening (m.fixed value)))) (sym (is ∙ ap (λ l. l ++ g ∷ []) empty)) (starts g (m.fixed value) stands (ap m.fixed (sym same)))
 
   -- the owner of each number once the next one is given to a new seat
   given : ℕ → ℕ → (ℕ → ℕ) → ℕ → ℕ
