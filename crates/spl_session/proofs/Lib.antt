@@ -1,0 +1,5 @@
+pub mod Asking
+pub mod Seeing
+pub mod Beginning
+pub mod Moving
+pub mod Walking
