@@ -1,13 +1,18 @@
 -- What an actor's sight keeps over several steps of others, and how walks are joined.
-use Rattle.std.proofs.Common.{◌≡◌, ℕ, zero, suc, ◌+◌, ◌<◌, Bool, List, [], ◌∷◌, ◌++◌, length, refl, ◌∙◌, ap, sym, subst, Some, None, arith, append-nil, length-append}
+use Rattle.std.proofs.Common.{set, ◌≡◌, ℕ, zero, suc, ◌+◌, ◌<◌, Bool, List, [], ◌∷◌, ◌++◌, length, refl, ◌∙◌, ap, sym, subst, Some, None, arith, append-nil, length-append}
 use Rattle.std.specs.Prelude.{slice_get}
 use Rattle.std.proofs.lemmas.List.{append_assoc}
 use Rattle.std.proofs.lemmas.Grind.{flat_map-append}
 use Rattle.std.proofs.lemmas.Option.{slice_get_within}
 use Rattle.spl_message.specs.declared.call.Call.{Call}
-use Rattle.spl_message.specs.History.{History}
+use Rattle.spl_message.specs.History.{Event, History}
 use Rattle.spl_message.specs.Rule.{Rule}
 use Rattle.spl_numbers.specs.Numbers.{has}
+use Rattle.spl_holds.proofs.HoldsLemmas.{grip_of-without_actor}
+use Rattle.spl_abandon.specs.Abandoning.{HasAbandoned}
+use Rattle.spl_state.specs.Actor.{actor_in, cleared}
+use Rattle.spl_state.specs.Frame.{refused}
+use Rattle.spl_core.specs.Steps.{IsStep}
 use Rattle.spl_state.specs.declared.actor.Actor.{Actor}
 use Rattle.spl_state.specs.declared.reply.Reply.{Reply}
 use Rattle.spl_state.specs.Sight.{KeepsSight}
@@ -15,10 +20,10 @@ use Rattle.spl_state.specs.Whole.{Whole}
 use Rattle.spl_state.proofs.Frames.{still}
 use Rattle.spl_core.specs.declared.step.Step.{Step}
 use Rattle.spl_core.specs.Standing.{called}
-use Rattle.spl_desk.specs.Holder.{BranchKind, Holder}
+use Rattle.spl_desk.specs.Holder.{BranchKind, Holder, IsSameHolder}
 use Rattle.spl_desk.specs.Turn.{Turn, IsTurn, MadeTurn, history_after}
 use Rattle.spl_desk.specs.Walk.{Walks, Went, holder_at, calls_in}
-use Rattle.spl_desk.specs.Calls.{HasNothing, IsOnlyCall, MadeCall, MadeNoCall}
+use Rattle.spl_desk.specs.Calls.{HasCalled, HasNothing, IsOnlyCall, MadeCall, MadeNoCall}
 
 -- where nothing happens the sight stays
 pub keeps_nothing : (rule : Rule) (tells : Bool) (whole : Whole) (actor : ℕ) → KeepsSight rule tells whole whole actor
@@ -32,6 +37,16 @@ pub get_before : {X : Type 0} (first more : List X) (at : ℕ) (x : X) → slice
 get_before [] more at x is = absurd (none_is_some x is)
 get_before (y ∷ first) more zero x is = is
 get_before (y ∷ first) more (suc at) x is = get_before first more at x is
+
+-- what a list has behind the first one
+get_seam : {X : Type 0} (first : List X) (x : X) → slice_get (first ++ x ∷ []) (length first) ≡ Some x
+get_seam [] x = refl
+get_seam (y ∷ first) x = get_seam first x
+
+cleared_parts : (actors : List Actor) (at : ℕ) → ((actor_in (set actors at (cleared (actor_in actors at))) at).descent ≡ None) × ((actor_in (set actors at (cleared (actor_in actors at))) at).job ≡ None)
+cleared_parts [] at = (refl, refl)
+cleared_parts (a ∷ actors) zero = (refl, refl)
+cleared_parts (a ∷ actors) (suc at) = cleared_parts actors at
 
 -- the holders differ in the core and in how many steps they made
 pub record IsAlike (old new : Holder) : Type 0 where
@@ -155,3 +170,71 @@ still_nothing rule tells old new actor keeps nothing = record {
   latches = λ node. keeps.grips node ∙ nothing.latches node;
   extents = λ extent. ap (λ (n : List Bool). has n extent) keeps.extents ∙ nothing.extents extent;
 }
+
+-- and so after a step that leaves the actors, the latches and the extents
+pub same_nothing : (old new : Whole) (actor : ℕ) → new.actors ≡ old.actors → new.grips ≡ old.grips → new.owners ≡ old.owners → HasNothing old actor → HasNothing new actor
+same_nothing old new actor actors grips owners nothing = record {
+  descent = rw actors nothing.descent;
+  job = rw actors nothing.job;
+  latches = λ node. rw grips (nothing.latches node);
+  extents = λ extent. rw owners (nothing.extents extent);
+}
+
+-- what an actor gave back is gone
+pub abandoned_nothing : (old new : Whole) (actor : ℕ) → HasAbandoned old new actor → HasNothing new actor
+abandoned_nothing old new actor abandoned = record {
+  descent = rw abandoned.actors (cleared_parts old.actors actor).0;
+  job = rw abandoned.actors (cleared_parts old.actors actor).1;
+  latches = λ node. rw abandoned.grips (grip_of-without_actor old.grips actor node);
+  extents = abandoned.nothing;
+}
+
+-- the holder after so many steps more, whose actor has nothing
+pub has_called : (old new : Holder) (steps : ℕ) → IsSameHolder old new steps → HasNothing new.at old.actor → HasCalled old new
+has_called old new steps same nothing = record {
+  alone = same.alone;
+  actor = same.actor;
+  rule = same.rule;
+  turns = rw same.turns (omega arith);
+  nothing = rw same.actor nothing;
+}
+
+-- one turn, as the step that was made and its answer
+module _ {B : Type 0} (kind : BranchKind B) (old new : Holder) (history : History) (made : Step B) (answer : Reply B) (Saw : History → Type 0) (turn : MadeTurn kind old new history made answer Saw) where
+  pub step_made : IsStep kind.number_of kind.data_of old.rule (refused turn.turn.before) old.actor made answer new.at
+  step_made =
+      let on : Step B → Reply B → Whole → Type 0 = λ s r w. IsStep kind.number_of kind.data_of old.rule (refused turn.turn.before) old.actor s r w in
+      subst (λ s. on s answer new.at) turn.step
+      (subst (λ r. on turn.turn.step r new.at) turn.reply
+      (subst (λ w. on turn.turn.step turn.turn.reply w) turn.after turn.legal.step))
+
+  called_made : called old.actor turn.turn.step turn.turn.reply ≡ called old.actor made answer
+  called_made = ap (λ s. called old.actor s turn.turn.reply) turn.step ∙ ap (λ r. called old.actor made r) turn.reply
+
+  pub calls_made : calls_in old.actor (turn.turn ∷ []) ≡ called old.actor made answer
+  calls_made = append-nil (called old.actor turn.turn.step turn.turn.reply) ∙ called_made
+
+  pub nothing_before : HasNothing old.at old.actor → HasNothing (refused turn.turn.before) old.actor
+  nothing_before nothing =
+      same_nothing turn.turn.before (refused turn.turn.before) old.actor refl refl refl
+      (still_nothing old.rule kind.tells old.at turn.turn.before old.actor turn.legal.kept nothing)
+
+  -- a turn without a call
+  pub no_call : called old.actor made answer ≡ [] → MadeNoCall kind old history new Saw
+  no_call none = went_turn kind old history new made answer Saw (λ turns seen. calls_in old.actor turns ≡ []) turn (calls_made ∙ none)
+
+  -- a turn with one, at the next place
+  pub one_call : (call : Call) (place : ℕ) → called old.actor made answer ≡ record { actor = old.actor; call = call } ∷ [] → place ≡ turn.turn.before.counters.places → MadeCall kind old history new Saw call place
+  one_call call place one is =
+      let event : Event = record { actor = old.actor; call = call } in
+      let known = history ++ turn.turn.others in
+      let count : place ≡ length known = is ∙ turn.legal.stood.places in
+      let longer : length known ≡ length history + length turn.turn.others = length-append history turn.turn.others in
+      went_turn kind old history new made answer Saw (IsOnlyCall old.actor history call place) turn (record {
+        only = calls_made ∙ one;
+        at =
+            ap (λ (h : History). slice_get (known ++ h) place) (called_made ∙ one)
+            ∙ ap (λ (n : ℕ). slice_get (known ++ event ∷ []) n) count
+            ∙ get_seam known event;
+        after = omega (arith, count, longer);
+      })

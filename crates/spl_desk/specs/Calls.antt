@@ -1,5 +1,5 @@
 -- What one call of the store over a desk leaves.
-use Rattle.std.specs.Prelude.{◌≡◌, ℕ, ◌≤◌, ◌^◌, true, false, List, [], ◌∷◌, ◌++◌, length, Some, None, slice_get}
+use Rattle.std.specs.Prelude.{◌≡◌, ℕ, ◌+◌, ◌≤◌, ◌^◌, true, false, List, [], ◌∷◌, ◌++◌, length, max, Some, None, slice_get}
 use Rattle.spl_message.specs.declared.call.Call.{Call}
 use Rattle.spl_message.specs.declared.call.Call.TheVariants as call
 use Rattle.spl_message.specs.declared.span.Span.{Span}
@@ -68,3 +68,7 @@ Looked kind old history new Saw key place value = Went kind old history new Saw 
 -- at so many steps a holder is spent
 abbrev pub IsSpentAt : ℕ → Holder → Type 0
 IsSpentAt turns new = (2 ^ 40 ≤ turns) × (turns ≤ new.turns)
+
+-- The holder makes steps only below 2^40 of them, and so many more.
+abbrev pub MadeFew : Holder → Holder → ℕ → Type 0
+MadeFew old new more = new.turns ≤ max old.turns (2 ^ 40) + more
