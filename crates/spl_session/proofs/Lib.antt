@@ -3,3 +3,5 @@ pub mod Seeing
 pub mod Beginning
 pub mod Moving
 pub mod Walking
+pub mod Tries
+pub mod Finding

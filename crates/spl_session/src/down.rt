@@ -4,7 +4,7 @@ ghost use Rattle.spl_message.specs.History.{History};
 ghost use Rattle.spl_state.specs.declared.sight.Sight.{Sight};
 ghost use Rattle.spl_state.specs.declared.reply.Reply.TheVariants.{Sight as sighted};
 ghost use Rattle.spl_state.specs.View.{branch_data};
-ghost use Rattle.spl_desk.specs.Calls.{MadeNoCall, MayCall};
+ghost use Rattle.spl_desk.specs.Calls.{MadeFew, MadeNoCall, MayCall};
 ghost use Rattle.spl_desk.specs.Holder.{IsSameHolder, kind_of};
 ghost use Rattle.spl_session.specs.Descending.{Arrived, Began, Descended, HasSeen, HasTurnCause, IsAt, IsFor, IsSameCaller, MaySee, OnSeen, Waits};
 
@@ -70,7 +70,7 @@ pub(crate) fn begin<B: Content, T: Turns<B>>(
     requires seen { HasSeen (T.saw turns.old) }
     requires free { MayCall (T.means turns.old) }
     ensures same { IsSameCaller (T.means turns.old) (T.means turns.new) }
-    ensures turns { (T.means turns.new).turns < 2 ^ 41 }
+    ensures few { MadeFew (T.means turns.old) (T.means turns.new) 0 }
     ensures ready { T.ready turns.new }
     ensures seen { HasSeen (T.saw turns.new) }
     ensures begun { IfOk result (λ sight. Arrived (kind_of B.number (branch_data B.extents B.entries B.cuts B.table) B.TELLS)
@@ -128,7 +128,7 @@ pub(crate) fn descend<B: Content, T: Turns<B>>(
     requires at { IsAt (kind_of B.number (branch_data B.extents B.entries B.cuts B.table) B.TELLS) (T.means turns.old) sight.now }
     requires inner { sight.now.leaf ≡ false }
     ensures same { IsSameCaller (T.means turns.old) (T.means turns.new) }
-    ensures turns { (T.means turns.new).turns < 2 ^ 41 }
+    ensures few { MadeFew (T.means turns.old) (T.means turns.new) 0 }
     ensures ready { T.ready turns.new }
     ensures seen { HasSeen (T.saw turns.new) }
     ensures moved { IfOk result (Descended (kind_of B.number (branch_data B.extents B.entries B.cuts B.table) B.TELLS)
@@ -156,7 +156,7 @@ pub(crate) fn end<B: Content, T: Turns<B>>(turns: &mut T, sight: &Sight<B>) -> R
     requires seen { HasSeen (T.saw turns.old) }
     requires at { IsAt (kind_of B.number (branch_data B.extents B.entries B.cuts B.table) B.TELLS) (T.means turns.old) sight.now }
     ensures same { IsSameCaller (T.means turns.old) (T.means turns.new) }
-    ensures turns { (T.means turns.new).turns < 2 ^ 41 }
+    ensures few { MadeFew (T.means turns.old) (T.means turns.new) 0 }
     ensures ready { T.ready turns.new }
     ensures seen { HasSeen (T.saw turns.new) }
     ensures ended { OnOk result (MayCall (T.means turns.new)) }

@@ -6,4 +6,10 @@
 
 mod ask;
 mod down;
+mod found;
+mod look;
+mod steps;
+
+pub use found::{Found, Stopped};
+pub use look::lookup;
 

@@ -39,7 +39,7 @@ loop-turns-preserved g c =
     let more = c.in_ok-sight.ensures.same.turns in
     record {
       same = same_on old mid new c.loop-turns.invariant.same c.in_ok-sight.ensures.same;
-      bound = omega (arith, more, c.loop-turns-test.true, c.turns.ensures);
+      few = omega (arith, more, c.loop-turns-test.true, c.turns.ensures);
       ready = c.in_ok-sight.ensures.ready;
       seen = c.in_ok-sight.ensures.seen;
       free = rw c.in_default.is at c.in_ok-sight.ensures.begun;

@@ -1,7 +1,7 @@
-use Rattle.std.proofs.Common.{ℕ, ◌<◌, ◌^◌, ◌-◌}
+use Rattle.std.proofs.Common.{ℕ, ◌^◌, ◌-◌}
 use Rattle.spl_message.specs.History.{History}
 use Rattle.spl_state.specs.View.{branch_data}
-use Rattle.spl_desk.specs.Calls.{MadeNoCall, MayCall}
+use Rattle.spl_desk.specs.Calls.{MadeFew, MadeNoCall, MayCall}
 use Rattle.spl_desk.specs.Holder.{kind_of}
 use Rattle.spl_session.specs.Descending.{HasSeen, IsSameCaller}
 use Rattle.spl_session.proofs.down.begin.Given as goal
@@ -12,7 +12,7 @@ invariant-loop-turns g l =
     let now = g.T.Turns.means l.turns in
     record {
       same : IsSameCaller old now;
-      bound : now.turns < 2 ^ 41;
+      few : MadeFew old now 0;
       ready : g.T.Turns.ready l.turns;
       seen : HasSeen (g.T.Turns.saw l.turns);
       free : MayCall now;

@@ -27,7 +27,7 @@ loop-turns-init g c =
     let kind = kind_of g.B.Content.number (branch_data g.B.Content.extents g.B.Content.entries g.B.Content.cuts g.B.Content.table) g.B.Content.TELLS in
     record {
       same = record { alone = refl; actor = refl; rule = refl; turns = omega arith };
-      bound = c.requires.turns;
+      few = omega arith;
       ready = c.requires.ready;
       seen = c.requires.seen;
       waits = record { at = c.requires.at; rest = λ tells key inside. refl };
@@ -43,7 +43,7 @@ loop-turns-preserved g c =
     let more = c.in_ok-next.ensures.same.turns in
     record {
       same = same_on old mid new c.loop-turns.invariant.same c.in_ok-next.ensures.same;
-      bound = omega (arith, more, c.loop-turns-test.true, c.turns.ensures);
+      few = omega (arith, more, c.loop-turns-test.true, c.turns.ensures);
       ready = c.in_ok-next.ensures.ready;
       seen = c.in_ok-next.ensures.seen;
       waits = waits_behind kind old mid new c.args.sight.now c.loop-turns.invariant.same.rule c.loop-turns.invariant.waits (rw c.in_default.is at c.in_ok-next.ensures.moved);

@@ -1,7 +1,7 @@
-use Rattle.std.proofs.Common.{ℕ, ◌<◌, ◌^◌, ◌-◌}
+use Rattle.std.proofs.Common.{ℕ, ◌^◌, ◌-◌}
 use Rattle.spl_message.specs.History.{History}
 use Rattle.spl_state.specs.View.{branch_data}
-use Rattle.spl_desk.specs.Calls.{MadeNoCall}
+use Rattle.spl_desk.specs.Calls.{MadeFew, MadeNoCall}
 use Rattle.spl_desk.specs.Holder.{kind_of}
 use Rattle.spl_session.specs.Descending.{HasSeen, IsSameCaller, Waits}
 use Rattle.spl_session.proofs.down.descend.Given as goal
@@ -13,7 +13,7 @@ invariant-loop-turns g l =
     let kind = kind_of g.B.Content.number (branch_data g.B.Content.extents g.B.Content.entries g.B.Content.cuts g.B.Content.table) g.B.Content.TELLS in
     record {
       same : IsSameCaller old now;
-      bound : now.turns < 2 ^ 41;
+      few : MadeFew old now 0;
       ready : g.T.Turns.ready l.turns;
       seen : HasSeen (g.T.Turns.saw l.turns);
       waits : Waits kind old now l.sight;
