@@ -122,7 +122,7 @@ module _ {B : Type 0} (kind : BranchKind B) where
           says = says two.turns two.seen two.walks two.says;
         }
 
-    no_call_on : (mid : Holder) (first more : List (Turn B)) → mid.actor ≡ old.actor → calls_in old.actor first ≡ [] → (calls : History) → calls_in mid.actor more ≡ calls → calls_in old.actor (first ++ more) ≡ calls
+    pub no_call_on : (mid : Holder) (first more : List (Turn B)) → mid.actor ≡ old.actor → calls_in old.actor first ≡ [] → (calls : History) → calls_in mid.actor more ≡ calls → calls_in old.actor (first ++ more) ≡ calls
     no_call_on mid first more same none calls is =
         calls_on old.actor first more ∙ ap (λ (h : History). h ++ calls_in old.actor more) none ∙ ap (λ (n : ℕ). calls_in n more) (sym same) ∙ is
 

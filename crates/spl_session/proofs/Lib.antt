@@ -3,5 +3,6 @@ pub mod Seeing
 pub mod Beginning
 pub mod Moving
 pub mod Walking
-pub mod Tries
 pub mod Finding
+pub mod Tries
+pub mod Stays

@@ -57,9 +57,9 @@ module _ {B : Type 0} (kind : BranchKind B) (old : Holder) (history : History) w
       let count : length one.seen ≡ length history + length grown.0 = ap (λ (h : History). length h) grown.1 ∙ length-append history grown.0 in
       let only : IsOnlyCall old.actor history (call.Piece (span_of_key key)) sight.place (one.turns ++ more) seen = record {
         only = calls_on kind old.actor one.turns more
-        ∙ ap (λ (h : History). h ++ calls_in old.actor more) one.says
-        ∙ ap (λ (n : ℕ). calls_in n more) (sym like.actor)
-        ∙ rw (sym like.actor) says.0.only;
+            ∙ ap (λ (h : History). h ++ calls_in old.actor more) one.says
+            ∙ ap (λ (n : ℕ). calls_in n more) (sym like.actor)
+            ∙ rw (sym like.actor) says.0.only;
         at = rw (sym like.actor) says.0.at;
         after = omega (arith, count, says.0.after);
       } in

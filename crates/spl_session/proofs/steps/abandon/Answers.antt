@@ -11,10 +11,10 @@ returns-clause-called g c =
     let new = g.T.Turns.means c.take_turn.new.turns in
     let seen = c.requires.seen in
     has_called old new 1 c.take_turn.ensures.same
-        (abandon_nothing kind old new seen.0 c.take_turn.result (g.T.Turns.saw c.take_turn.new.turns) (c.take_turn.ensures.turn seen.0 seen.1))
+    (abandon_nothing kind old new seen.0 c.take_turn.result (g.T.Turns.saw c.take_turn.new.turns) (c.take_turn.ensures.turn seen.0 seen.1))
 
 pub returns-clause-no_call : goal.returns-clause-no_call
 returns-clause-no_call g c = λ history saw.
     let kind = kind_of g.B.Content.number (branch_data g.B.Content.extents g.B.Content.entries g.B.Content.cuts g.B.Content.table) g.B.Content.TELLS in
     abandon_no_call kind (g.T.Turns.means c.args.turns.now) (g.T.Turns.means c.take_turn.new.turns) history c.take_turn.result (g.T.Turns.saw c.take_turn.new.turns)
-        (c.take_turn.ensures.turn history saw)
+    (c.take_turn.ensures.turn history saw)
