@@ -1,16 +1,15 @@
 -- What one call of the store over a desk leaves.
-use Rattle.std.specs.Prelude.{◌≡◌, ℕ, ◌+◌, ◌<◌, ◌≤◌, ◌^◌, Bool, true, false, List, [], ◌∷◌, ◌++◌, length, Option, Some, None, slice_get}
+use Rattle.std.specs.Prelude.{◌≡◌, ℕ, ◌+◌, ◌≤◌, ◌^◌, true, false, List, [], ◌∷◌, ◌++◌, length, max, Some, None, slice_get}
 use Rattle.spl_message.specs.declared.call.Call.{Call}
 use Rattle.spl_message.specs.declared.call.Call.TheVariants as call
 use Rattle.spl_message.specs.declared.span.Span.{Span}
 use Rattle.spl_message.specs.Cell.{Cell}
-use Rattle.spl_message.specs.History.{Event, History, cell_at}
-use Rattle.spl_message.specs.Rule.{Rule}
+use Rattle.spl_message.specs.History.{History, cell_at}
 use Rattle.spl_numbers.specs.Numbers.{has}
 use Rattle.spl_extent.specs.Pool.{granted_to}
 use Rattle.spl_holds.specs.declared.grip.Grip.TheVariants.{Free}
 use Rattle.spl_holds.specs.Holds.{grip_of}
-use Rattle.spl_port.specs.Counts.{Counts, Rose}
+use Rattle.spl_port.specs.Counts.{Counts}
 use Rattle.spl_state.specs.Actor.{actor_in}
 use Rattle.spl_state.specs.Whole.{Whole}
 use Rattle.spl_desk.specs.Holder.{BranchKind, Holder}
@@ -69,3 +68,7 @@ Looked kind old history new Saw key place value = Went kind old history new Saw 
 -- at so many steps a holder is spent
 abbrev pub IsSpentAt : ℕ → Holder → Type 0
 IsSpentAt turns new = (2 ^ 40 ≤ turns) × (turns ≤ new.turns)
+
+-- The holder makes steps only below 2^40 of them, and so many more.
+abbrev pub MadeFew : Holder → Holder → ℕ → Type 0
+MadeFew old new more = new.turns ≤ max old.turns (2 ^ 40) + more

@@ -1,4 +1,6 @@
+pub mod Branches
 pub mod Calls
+pub mod Causes
 pub mod Holder
 pub mod Turn
 pub mod Walk

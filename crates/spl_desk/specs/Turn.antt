@@ -1,7 +1,6 @@
 -- One step of a holder of turns, with what others did since its step before.
-use Rattle.std.specs.Prelude.{◌≡◌, ◌≢◌, ℕ, Bool, true, List, [], ◌++◌, All}
+use Rattle.std.specs.Prelude.{◌≡◌, ◌≢◌, ℕ, true, [], ◌++◌, All}
 use Rattle.spl_message.specs.History.{Event, History}
-use Rattle.spl_message.specs.Rule.{Rule}
 use Rattle.spl_state.specs.declared.reply.Reply.{Reply}
 use Rattle.spl_state.specs.Frame.{refused}
 use Rattle.spl_state.specs.Sight.{KeepsSight}

@@ -1,0 +1,63 @@
+-- One message for those of several tables, newest first.
+use Rattle.std.proofs.Common.{◌≡◌, ℕ, suc, ◌+◌, ◌<◌, ◌≤◌, Bool, true, false, List, [], ◌∷◌, ◌++◌, Option, Some, None, length, map, get_or, drop, take, refl, sym, ap, subst, ◌∙◌, append_assoc, append-nil, take-append-drop, arith}
+use Rattle.std.specs.Prelude.{option_to_list}
+use Rattle.std.proofs.Math.Seq.{drop-cons}
+use Rattle.std.proofs.lemmas.Bool.{false≢true}
+use Rattle.std.proofs.lemmas.Grind.{flat_map-append}
+use Rattle.std.proofs.lemmas.List.{map-append}
+use Rattle.std.proofs.lemmas.List.Sums.{fold-append}
+use Rattle.spl_message.specs.declared.message.Message.{Message}
+use Rattle.spl_message.specs.declared.message.Message.TheVariants.{Insert, Delete, Update}
+use Rattle.spl_message.specs.Cell.{Cell}
+use Rattle.spl_message.specs.Message.{act, act_all, combine}
+use Rattle.spl_message.specs.Rule.{Rule}
+use Rattle.spl_message.specs.Table.{Table, chain, message_at}
+use Rattle.spl_message.proofs.Messages.{act-combine}
+use Rattle.spl_session.specs.Asking.{Folds, decides}
+
+module _ (rule : Rule) (key : List ℕ) where
+  -- one after the other
+  pub acts_on : (cell : Cell) (first second : List Message) → act_all rule key cell (first ++ second) ≡ act_all rule key (act_all rule key cell first) second
+  acts_on cell first second = fold-append (act rule key) cell first second
+
+  -- behind what decides, it does not matter what lay below
+  pub decided_same : (found : Option Message) → decides found ≡ true → (cell other : Cell) → act_all rule key cell (option_to_list found) ≡ act_all rule key other (option_to_list found)
+  decided_same None is cell other = absurd (false≢true is)
+  decided_same (Some (Insert value)) is cell other = refl
+  decided_same (Some Delete) is cell other = refl
+  decided_same (Some (Update operand)) is cell other = absurd (false≢true is)
+
+  pub combined : (older newer : Message) → Folds rule key (older ∷ newer ∷ []) (Some (combine rule key older newer))
+  combined older newer cell = act-combine rule key cell older newer
+
+  -- the message of one more table
+  pub one_more : (older newer found : Option Message) (rest : List Message) → Folds rule key (option_to_list older ++ option_to_list newer) found → Folds rule key rest newer → Folds rule key (option_to_list older ++ rest) found
+  one_more older newer found rest both one cell =
+      both cell
+      ∙ acts_on cell (option_to_list older) (option_to_list newer)
+      ∙ one (act_all rule key cell (option_to_list older))
+      ∙ sym (acts_on cell (option_to_list older) rest)
+
+  module _ {X : Type 0} (table : X → Table) where
+    abbrev pub from : List X → ℕ → List Message
+    from xs left = chain (map table (drop left xs)) key
+
+    pub next_older : (xs : List X) (left n : ℕ) (x : X) (rest : List Message) (newer found : Option Message) → n ≡ suc left → n ≤ length xs → Folds rule key (option_to_list (message_at (table (get_or xs left x)) key) ++ option_to_list newer) found → Folds rule key (from xs n ++ rest) newer → Folds rule key (from xs left ++ rest) found
+    next_older xs left n x rest newer found is within both one =
+        let here : drop left xs ≡ get_or xs left x ∷ drop n xs = drop-cons xs left x (omega arith) ∙ ap (λ (k : ℕ). get_or xs left x ∷ drop k xs) (sym is) in
+        let older = message_at (table (get_or xs left x)) key in
+        let all : option_to_list older ++ (from xs n ++ rest) ≡ from xs left ++ rest =
+        sym (append_assoc (option_to_list older) (from xs n) rest) ∙ ap (λ (ys : List X). chain (map table ys) key ++ rest) (sym here) in
+        subst (λ (ms : List Message). Folds rule key ms found) all (one_more older newer found (from xs n ++ rest) both one)
+
+    -- what decides does not need the older ones
+    pub decided_from : (xs : List X) (left : ℕ) (rest : List Message) (found : Option Message) → decides found ≡ true → Folds rule key (from xs left ++ rest) found → Folds rule key (chain (map table xs) key ++ rest) found
+    decided_from xs left rest found is one cell =
+        let older = chain (map table (take left xs)) key in
+        let parts : older ++ from xs left ≡ chain (map table xs) key =
+        sym (flat_map-append (λ t. option_to_list (message_at t key)) (map table (take left xs)) (map table (drop left xs)))
+        ∙ ap (λ (ts : List Table). chain ts key) (sym (map-append table (take left xs) (drop left xs)) ∙ ap (map table) (take-append-drop left xs)) in
+        decided_same found is cell (act_all rule key cell older)
+        ∙ one (act_all rule key cell older)
+        ∙ sym (acts_on cell older (from xs left ++ rest))
+        ∙ ap (act_all rule key cell) (sym (append_assoc older (from xs left) rest) ∙ ap (λ (ms : List Message). ms ++ rest) parts)

@@ -1,0 +1,50 @@
+use Rattle.std.proofs.Common.{◌≡◌, ◌<◌, ◌++◌, ◌∷◌, [], ℕ, Some, sym, ap, subst}
+use Rattle.spl_base.specs.declared.TheConstants.{ACTORS}
+use Rattle.spl_message.specs.declared.span.Span.{Span}
+use Rattle.spl_message.specs.History.{History}
+use Rattle.spl_state.specs.View.{branch_data}
+use Rattle.spl_core.specs.declared.step.Step.TheVariants.{Begin}
+use Rattle.spl_desk.specs.Calls.{HasNothing, MadeNoCall, span_of_key}
+use Rattle.spl_desk.specs.Holder.{kind_of}
+use Rattle.spl_desk.specs.Turn.{MadeTurn}
+use Rattle.spl_session.specs.Descending.{Arrived, Began, IsFor}
+use Rattle.spl_session.proofs.Beginning.{turn_begun, turn_may, turn_walk}
+use Rattle.spl_session.proofs.Seeing.{on_seen}
+use Rattle.spl_session.proofs.down.begin_once.Given.{Over}
+use Rattle.spl_session.proofs.down.begin_once.Goals as goal
+use Rattle.spl_session.proofs.down.begin_once.Goals.{After-take_turn}
+
+known : (g : Over) (c : After-take_turn g) → (g.T.Turns.means c.args.turns.now).actor < ACTORS
+known g c = subst (λ (n : ℕ). n < ACTORS) c.actor.ensures.value c.actor.ensures.known
+
+made : (g : Over) (c : After-take_turn g) (history : History) → g.T.Turns.saw c.args.turns.now history
+    → MadeTurn (kind_of g.B.Content.number (branch_data g.B.Content.extents g.B.Content.entries g.B.Content.cuts g.B.Content.table) g.B.Content.TELLS) (g.T.Turns.means c.args.turns.now) (g.T.Turns.means c.take_turn.new.turns) history (Begin (span_of_key c.args.key.now)) c.take_turn.result (g.T.Turns.saw c.take_turn.new.turns)
+made g c history saw = rw (sym c.after.ensures.value) (c.take_turn.ensures.turn history saw)
+
+pub seen_in-requires : goal.seen_in-requires
+seen_in-requires g c =
+    let kind = kind_of g.B.Content.number (branch_data g.B.Content.extents g.B.Content.entries g.B.Content.cuts g.B.Content.table) g.B.Content.TELLS in
+    let same = c.take_turn.ensures.same in
+    turn_may kind (g.T.Turns.means c.args.turns.now) (g.T.Turns.means c.take_turn.new.turns) c.args.key.now c.requires.seen.0 (g.T.Turns.saw c.take_turn.new.turns) (known g c) c.requires.free same.actor same.rule c.take_turn.result (made g c c.requires.seen.0 c.requires.seen.1)
+
+pub returns-clause-seen : goal.returns-clause-seen
+returns-clause-seen g c = let turn = c.take_turn.ensures.turn c.requires.seen.0 c.requires.seen.1 in (_, turn.saw)
+
+pub returns-clause-begun : goal.returns-clause-begun
+returns-clause-begun g c =
+    let kind = kind_of g.B.Content.number (branch_data g.B.Content.extents g.B.Content.entries g.B.Content.cuts g.B.Content.table) g.B.Content.TELLS in
+    let new = g.T.Turns.means c.take_turn.new.turns in
+    let same = c.take_turn.ensures.same in
+    let before = (goal.at.returns-clause-begun g c).After-take_turn in
+    on_seen c.take_turn.result c.seen_in.result (λ sight. Arrived kind new sight × IsFor c.args.key.now sight.span) (HasNothing new.at new.actor) c.seen_in.ensures
+    (turn_begun kind (g.T.Turns.means c.args.turns.now) new c.args.key.now c.requires.seen.0 (g.T.Turns.saw c.take_turn.new.turns) (known g before) c.requires.free same.actor same.rule c.take_turn.result (made g before c.requires.seen.0 c.requires.seen.1))
+
+pub returns-clause-walk : goal.returns-clause-walk
+returns-clause-walk g c = λ history saw.
+    let kind = kind_of g.B.Content.number (branch_data g.B.Content.extents g.B.Content.entries g.B.Content.cuts g.B.Content.table) g.B.Content.TELLS in
+    let old = g.T.Turns.means c.args.turns.now in
+    let new = g.T.Turns.means c.take_turn.new.turns in
+    let same = c.take_turn.ensures.same in
+    let before = (goal.at.returns-clause-walk g c).After-take_turn in
+    on_seen c.take_turn.result c.seen_in.result (Began kind old history new (g.T.Turns.saw c.take_turn.new.turns) c.args.key.now) (MadeNoCall kind old history new (g.T.Turns.saw c.take_turn.new.turns)) c.seen_in.ensures
+    (turn_walk kind old new c.args.key.now history (g.T.Turns.saw c.take_turn.new.turns) (known g before) c.requires.free same.actor same.rule c.take_turn.result (made g before history saw))

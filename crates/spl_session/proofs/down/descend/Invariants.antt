@@ -1,0 +1,24 @@
+use Rattle.std.proofs.Common.{ℕ, ◌^◌, ◌-◌}
+use Rattle.spl_message.specs.History.{History}
+use Rattle.spl_state.specs.View.{branch_data}
+use Rattle.spl_desk.specs.Calls.{MadeFew, MadeNoCall}
+use Rattle.spl_desk.specs.Holder.{kind_of}
+use Rattle.spl_session.specs.Descending.{HasSeen, IsSameCaller, Waits}
+use Rattle.spl_session.proofs.down.descend.Given as goal
+
+abbrev pub invariant-loop-turns : goal.invariant-loop-turns
+invariant-loop-turns g l =
+    let old = g.T.Turns.means l.initial.turns in
+    let now = g.T.Turns.means l.turns in
+    let kind = kind_of g.B.Content.number (branch_data g.B.Content.extents g.B.Content.entries g.B.Content.cuts g.B.Content.table) g.B.Content.TELLS in
+    record {
+      same : IsSameCaller old now;
+      few : MadeFew old now 0;
+      ready : g.T.Turns.ready l.turns;
+      seen : HasSeen (g.T.Turns.saw l.turns);
+      waits : Waits kind old now l.sight;
+      walk : (history : History) → g.T.Turns.saw l.initial.turns history → MadeNoCall kind old history now (g.T.Turns.saw l.turns);
+    }
+
+abbrev pub decreases-loop-turns : goal.decreases-loop-turns
+decreases-loop-turns g l = 2 ^ 40 - (g.T.Turns.means l.turns).turns

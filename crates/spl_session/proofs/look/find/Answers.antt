@@ -1,0 +1,75 @@
+use Rattle.std.proofs.Common.{◌≡◌, true, Option, None, ◌++◌, option_to_list, sym, ap, subst, ◌∙◌, map, arith}
+use Rattle.spl_message.specs.declared.message.Message.{Message}
+use Rattle.spl_message.specs.History.{History}
+use Rattle.spl_message.specs.Message.{act_all}
+use Rattle.spl_message.specs.Rule.{Rule}
+use Rattle.spl_message.specs.Table.{chain}
+use Rattle.spl_branch.specs.Branch.{table_of}
+use Rattle.spl_descent.specs.Sights.{rest}
+use Rattle.spl_desk.specs.Branches.{branch_kind}
+use Rattle.spl_desk.proofs.Walks.{none_then_none}
+use Rattle.spl_session.specs.Asking.{Folds}
+use Rattle.spl_session.specs.Descending.{Descended}
+use Rattle.spl_session.proofs.Finding.{found_last, found_on}
+use Rattle.spl_session.proofs.Walking.{alike, same_then}
+use Rattle.spl_session.proofs.look.find.Given.{Over}
+use Rattle.spl_session.proofs.look.find.Goals as goal
+use Rattle.spl_session.proofs.look.find.Goals.{After-is_last}
+
+-- what was found at the node, by the holder's rule
+folded : (g : Over) (c : After-is_last g) → g.P.Seal.Seal.TELLS ≡ true → Folds (g.T.Turns.means c.down.desk.turns).rule c.args.key.now (chain (map table_of c.down.sight.branches) c.args.key.now ++ option_to_list c.down.found) c.in_ok-found.found
+folded g c tells =
+    let rule : g.L.MergeLaw.rule c.down.desk.law.now ≡ (g.T.Turns.means c.down.desk.turns).rule =
+    ap g.L.MergeLaw.rule c.down.invariant.law ∙ c.requires.law ∙ sym c.down.invariant.same.rule in
+    subst (λ (r : Rule). Folds r c.args.key.now (chain (map table_of c.down.sight.branches) c.args.key.now ++ option_to_list c.down.found) c.in_ok-found.found) rule (c.in_ok-found.ensures.told tells)
+
+pub returns-in_err-end-clause-walk : goal.returns-in_err-end-clause-walk
+returns-in_err-end-clause-walk g c = λ history saw.
+    none_then_none (branch_kind g.P.Seal.Seal.TELLS) (g.T.Turns.means c.args.desk.now.turns) history (g.T.Turns.means c.down.desk.turns) (g.T.Turns.means c.end.new.turns) (g.T.Turns.saw c.down.desk.turns) (g.T.Turns.saw c.end.new.turns) (alike c.down.invariant.same) (c.down.invariant.walk history saw) c.in_err-end.ensures.walk
+
+pub returns-then-is_last-clause-value : goal.returns-then-is_last-clause-value
+returns-then-is_last-clause-value g c = λ tells.
+    let key = c.args.key.now in
+    let mid = g.T.Turns.means c.down.desk.turns in
+    let before = (goal.at.returns-then-is_last-clause-value g c).After-is_last in
+    let here = found_last (branch_kind g.P.Seal.Seal.TELLS) key mid c.down.sight c.down.found c.in_ok-found.found (folded g before tells) c.down.invariant.arrived c.down.invariant.wanted (sym c.is_last.ensures ∙ c.if-is_last.true) in
+    subst (λ (r : Rule). act_all r key None (option_to_list c.in_ok-found.found) ≡ act_all r key (rest r mid.at c.down.sight.node key) (option_to_list c.down.found)) c.down.invariant.same.rule here
+    ∙ c.down.invariant.value tells
+
+pub returns-then-is_last-clause-walk : goal.returns-then-is_last-clause-walk
+returns-then-is_last-clause-walk g c = λ history saw.
+    none_then_none (branch_kind g.P.Seal.Seal.TELLS) (g.T.Turns.means c.args.desk.now.turns) history (g.T.Turns.means c.down.desk.turns) (g.T.Turns.means c.end.new.turns) (g.T.Turns.saw c.down.desk.turns) (g.T.Turns.saw c.end.new.turns) (alike c.down.invariant.same) (c.down.invariant.walk history saw) c.in_ok-end.ensures.walk
+
+pub returns-in_err-sight-clause-walk : goal.returns-in_err-sight-clause-walk
+returns-in_err-sight-clause-walk g c = λ history saw.
+    none_then_none (branch_kind g.P.Seal.Seal.TELLS) (g.T.Turns.means c.args.desk.now.turns) history (g.T.Turns.means c.down.desk.turns) (g.T.Turns.means c.descend.new.turns) (g.T.Turns.saw c.down.desk.turns) (g.T.Turns.saw c.descend.new.turns) (alike c.down.invariant.same) (c.down.invariant.walk history saw) c.in_err-sight.ensures.walk
+
+pub down-preserved : goal.down-preserved
+down-preserved g c =
+    let key = c.args.key.now in
+    let kind = branch_kind g.P.Seal.Seal.TELLS in
+    let old = g.T.Turns.means c.args.desk.now.turns in
+    let mid = g.T.Turns.means c.down.desk.turns in
+    let new = g.T.Turns.means c.descend.new.turns in
+    let before = (goal.at.down-preserved g c).After-is_last in
+    let moved = c.in_ok-sight.ensures.moved in
+    let one = c.down.invariant.few in
+    let two = c.in_ok-sight.ensures.few in
+    let seen = c.down.invariant.counts in
+    let more = c.in_ok-found.ensures.counts in
+    record {
+      same = same_then old mid new c.down.invariant.same c.in_ok-sight.ensures.same;
+      few = omega (arith, one, two);
+      ready = c.in_ok-sight.ensures.ready;
+      seen = c.in_ok-sight.ensures.seen;
+      law = c.down.invariant.law;
+      pager = c.down.invariant.pager;
+      arrived = moved.arrived;
+      wanted = moved.keeps key c.down.invariant.wanted;
+      value = λ tells.
+          subst (λ (r : Rule). act_all r key (rest r new.at c.in_ok-sight.sight.node key) (option_to_list c.in_ok-found.found) ≡ act_all r key (rest r mid.at c.down.sight.node key) (option_to_list c.down.found)) c.down.invariant.same.rule
+          (found_on kind key mid c.down.sight c.down.found c.in_ok-found.found (folded g before tells) new c.in_ok-sight.sight moved c.down.invariant.wanted tells)
+          ∙ c.down.invariant.value tells;
+      walk = λ history saw. none_then_none kind old history mid new (g.T.Turns.saw c.down.desk.turns) (g.T.Turns.saw c.descend.new.turns) (alike c.down.invariant.same) (c.down.invariant.walk history saw) c.in_ok-sight.ensures.walk;
+      counts = record { faults = omega (arith, seen.faults, more.faults); reads = omega (arith, seen.reads, more.reads); writes = more.writes ∙ seen.writes };
+    }

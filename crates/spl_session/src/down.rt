@@ -1,0 +1,178 @@
+//! The steps of a descent: each is made again until it is not refused.
+ghost use Rattle.std.specs.Prelude.{◌≡◌, ◌≢◌, ◌<◌, ◌≤◌, ◌^◌, false, IfOk, IfErr, OnOk, IsOk, MatchResult};
+ghost use Rattle.spl_message.specs.History.{History};
+ghost use Rattle.spl_state.specs.declared.sight.Sight.{Sight};
+ghost use Rattle.spl_state.specs.declared.reply.Reply.TheVariants.{Sight as sighted};
+ghost use Rattle.spl_state.specs.View.{branch_data};
+ghost use Rattle.spl_desk.specs.Calls.{MadeFew, MadeNoCall, MayCall};
+ghost use Rattle.spl_desk.specs.Holder.{IsSameHolder, kind_of};
+ghost use Rattle.spl_session.specs.Descending.{Arrived, Began, Descended, HasSeen, HasTurnCause, IsAt, IsFor, IsSameCaller, MaySee, OnSeen, Waits};
+
+use spl_base::NoMemory;
+use spl_core::Step;
+use spl_desk::{CallFault, Turns, take_turn};
+use spl_message::{Bound, Content, Key, Span};
+use spl_state::{Reply, Sight};
+
+/// A holder that made so many steps is spent.
+const MOST_TURNS: u64 = 1 << 40;
+
+const _: () = prove!(MOST_TURNS == 1_099_511_627_776);
+
+/// The sight that a step of a descent was answered, and none where it has to be made again.
+fn seen_in<B: Content>(reply: Reply<B>) -> Result<Option<Sight<B>>, NoMemory>
+    requires { MaySee reply }
+    ensures { OnSeen result (λ sight. reply ≡ sighted sight) ((sight : Sight B) → reply ≢ sighted sight) }
+{
+    match reply {
+        Reply::Sight(sight) => Ok(Some(sight)),
+        Reply::Again { .. } => Ok(None),
+        Reply::NoMemory => Err(NoMemory),
+        _ => unreachable!(),
+    }
+}
+
+/// Begins a descent for the key, where the root is not written.
+fn begin_once<B: Content, T: Turns<B>>(
+    turns: &mut T,
+    key: &Key,
+) -> Result<Option<Sight<B>>, NoMemory>
+    requires turns { (T.means turns.old).turns < 2 ^ 41 }
+    requires ready { T.ready turns.old }
+    requires seen { HasSeen (T.saw turns.old) }
+    requires free { MayCall (T.means turns.old) }
+    ensures same { IsSameHolder (T.means turns.old) (T.means turns.new) 1 }
+    ensures ready { T.ready turns.new }
+    ensures seen { HasSeen (T.saw turns.new) }
+    ensures begun { OnSeen result (λ sight. Arrived (kind_of B.number (branch_data B.extents B.entries B.cuts B.table) B.TELLS)
+        (T.means turns.new) sight × IsFor key.now sight.span) (MayCall (T.means turns.new)) }
+    ensures walk { (history : History) → T.saw turns.old history → OnSeen result
+        (Began (kind_of B.number (branch_data B.extents B.entries B.cuts B.table) B.TELLS)
+        (T.means turns.old) history (T.means turns.new) (T.saw turns.new) key.now)
+        (MadeNoCall (kind_of B.number (branch_data B.extents B.entries B.cuts B.table) B.TELLS)
+        (T.means turns.old) history (T.means turns.new) (T.saw turns.new)) }
+{
+    let _ = turns.actor();
+    let span = Span {
+        from: Some(*key),
+        to: Some(Bound::after(key)),
+    };
+    seen_in(take_turn(turns, Step::Begin { span }))
+}
+
+/// Begins a descent for the key.
+pub(crate) fn begin<B: Content, T: Turns<B>>(
+    turns: &mut T,
+    key: &Key,
+) -> Result<Sight<B>, CallFault>
+    requires turns { (T.means turns.old).turns < 2 ^ 41 }
+    requires ready { T.ready turns.old }
+    requires seen { HasSeen (T.saw turns.old) }
+    requires free { MayCall (T.means turns.old) }
+    ensures same { IsSameCaller (T.means turns.old) (T.means turns.new) }
+    ensures few { MadeFew (T.means turns.old) (T.means turns.new) 0 }
+    ensures ready { T.ready turns.new }
+    ensures seen { HasSeen (T.saw turns.new) }
+    ensures begun { IfOk result (λ sight. Arrived (kind_of B.number (branch_data B.extents B.entries B.cuts B.table) B.TELLS)
+        (T.means turns.new) sight × IsFor key.now sight.span) }
+    ensures walk { (history : History) → T.saw turns.old history → MatchResult result
+        (Began (kind_of B.number (branch_data B.extents B.entries B.cuts B.table) B.TELLS)
+        (T.means turns.old) history (T.means turns.new) (T.saw turns.new) key.now)
+        (λ fault. MadeNoCall (kind_of B.number (branch_data B.extents B.entries B.cuts B.table) B.TELLS)
+        (T.means turns.old) history (T.means turns.new) (T.saw turns.new)) }
+    ensures cause { IfErr result (HasTurnCause (T.means turns.new)) }
+{
+    while turns.turns() < MOST_TURNS {
+        if let Some(sight) = begin_once(turns, key)? {
+            return Ok(sight);
+        }
+    }
+    Err(CallFault::Spent {
+        turns: turns.turns(),
+    })
+}
+
+/// Goes on to the child, where it is not written.
+fn descend_once<B: Content, T: Turns<B>>(
+    turns: &mut T,
+    sight: &Sight<B>,
+) -> Result<Option<Sight<B>>, NoMemory>
+    requires turns { (T.means turns.old).turns < 2 ^ 41 }
+    requires ready { T.ready turns.old }
+    requires seen { HasSeen (T.saw turns.old) }
+    requires at { IsAt (kind_of B.number (branch_data B.extents B.entries B.cuts B.table) B.TELLS) (T.means turns.old) sight.now }
+    requires inner { sight.now.leaf ≡ false }
+    ensures same { IsSameHolder (T.means turns.old) (T.means turns.new) 1 }
+    ensures ready { T.ready turns.new }
+    ensures seen { HasSeen (T.saw turns.new) }
+    ensures moved { OnSeen result (Descended (kind_of B.number (branch_data B.extents B.entries B.cuts B.table) B.TELLS)
+        (T.means turns.old) (T.means turns.new) sight.now)
+        (Waits (kind_of B.number (branch_data B.extents B.entries B.cuts B.table) B.TELLS)
+        (T.means turns.old) (T.means turns.new) sight.now) }
+    ensures walk { (history : History) → T.saw turns.old history
+        → MadeNoCall (kind_of B.number (branch_data B.extents B.entries B.cuts B.table) B.TELLS)
+        (T.means turns.old) history (T.means turns.new) (T.saw turns.new) }
+{
+    let _ = turns.actor();
+    seen_in(take_turn(turns, Step::MoveDown))
+}
+
+/// Goes on from the node of the sight to the child.
+pub(crate) fn descend<B: Content, T: Turns<B>>(
+    turns: &mut T,
+    sight: &Sight<B>,
+) -> Result<Sight<B>, CallFault>
+    requires turns { (T.means turns.old).turns < 2 ^ 41 }
+    requires ready { T.ready turns.old }
+    requires seen { HasSeen (T.saw turns.old) }
+    requires at { IsAt (kind_of B.number (branch_data B.extents B.entries B.cuts B.table) B.TELLS) (T.means turns.old) sight.now }
+    requires inner { sight.now.leaf ≡ false }
+    ensures same { IsSameCaller (T.means turns.old) (T.means turns.new) }
+    ensures few { MadeFew (T.means turns.old) (T.means turns.new) 0 }
+    ensures ready { T.ready turns.new }
+    ensures seen { HasSeen (T.saw turns.new) }
+    ensures moved { IfOk result (Descended (kind_of B.number (branch_data B.extents B.entries B.cuts B.table) B.TELLS)
+        (T.means turns.old) (T.means turns.new) sight.now) }
+    ensures left { IsOk result → ((T.means turns.old).turns < (T.means turns.new).turns) × ((T.means turns.new).turns ≤ 2 ^ 40) }
+    ensures walk { (history : History) → T.saw turns.old history
+        → MadeNoCall (kind_of B.number (branch_data B.extents B.entries B.cuts B.table) B.TELLS)
+        (T.means turns.old) history (T.means turns.new) (T.saw turns.new) }
+    ensures cause { IfErr result (HasTurnCause (T.means turns.new)) }
+{
+    while turns.turns() < MOST_TURNS {
+        if let Some(next) = descend_once(turns, sight)? {
+            return Ok(next);
+        }
+    }
+    Err(CallFault::Spent {
+        turns: turns.turns(),
+    })
+}
+
+/// Ends the descent.
+pub(crate) fn end<B: Content, T: Turns<B>>(turns: &mut T, sight: &Sight<B>) -> Result<(), CallFault>
+    requires turns { (T.means turns.old).turns < 2 ^ 41 }
+    requires ready { T.ready turns.old }
+    requires seen { HasSeen (T.saw turns.old) }
+    requires at { IsAt (kind_of B.number (branch_data B.extents B.entries B.cuts B.table) B.TELLS) (T.means turns.old) sight.now }
+    ensures same { IsSameCaller (T.means turns.old) (T.means turns.new) }
+    ensures few { MadeFew (T.means turns.old) (T.means turns.new) 0 }
+    ensures ready { T.ready turns.new }
+    ensures seen { HasSeen (T.saw turns.new) }
+    ensures ended { OnOk result (MayCall (T.means turns.new)) }
+    ensures walk { (history : History) → T.saw turns.old history
+        → MadeNoCall (kind_of B.number (branch_data B.extents B.entries B.cuts B.table) B.TELLS)
+        (T.means turns.old) history (T.means turns.new) (T.saw turns.new) }
+    ensures cause { IfErr result (HasTurnCause (T.means turns.new)) }
+{
+    if turns.turns() >= MOST_TURNS {
+        return Err(CallFault::Spent {
+            turns: turns.turns(),
+        });
+    }
+    let _ = turns.actor();
+    match take_turn(turns, Step::End) {
+        Reply::Done => Ok(()),
+        _ => unreachable!(),
+    }
+}
