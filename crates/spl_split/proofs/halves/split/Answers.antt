@@ -192,7 +192,7 @@ pub returns-clause-few : goal.returns-clause-few
 returns-clause-few g c = λ number.
     let data_of = branch_data g.B.Content.extents g.B.Content.entries g.B.Content.cuts g.B.Content.table in
     let before : counts c.args.parts.now number ≡ count_at c.parts.inside.refs number =
-        sym (ap (λ (w : Whole). counts w number) c.parts.view_is) ∙ count_seen data_of c.parts.inside.refs number in
+    sym (ap (λ (w : Whole). counts w number) c.parts.view_is) ∙ count_seen data_of c.parts.inside.refs number in
     let after = count_seen data_of c.name_again.new.refs number in
     let more = c.name_again.ensures.named.counts number in
     let few = c.name_again.ensures.few number in

@@ -14,7 +14,7 @@ returns-clause-turn g c = λ history stands.
     let new = c.step-reply.new.self.parts in
     let same = sym (append-nil history) in
     let behind : StandsFor rule g.B.Content.TELLS new ((history ++ []) ++ called 0 c.args.step c.step-reply.result) =
-        subst (λ (h : History). StandsFor rule g.B.Content.TELLS new (h ++ called 0 c.args.step c.step-reply.result)) same (c.step-reply.ensures.stands history stands) in
+    subst (λ (h : History). StandsFor rule g.B.Content.TELLS new (h ++ called 0 c.args.step c.step-reply.result)) same (c.step-reply.ensures.stands history stands) in
     record {
       turn = record { others = []; before = old; step = c.args.step; reply = c.step-reply.result; after = new };
       step = refl;
