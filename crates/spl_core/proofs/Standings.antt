@@ -1,5 +1,5 @@
 -- What steps leave of the history that a core stands for.
-use Rattle.std.proofs.Common.{◌≡◌, ◌≢◌, ℕ, zero, suc, ◌+◌, ◌<◌, Bool, true, false, cond, List, [], ◌∷◌, ◌++◌, Option, Some, None, length, length-append, refl, sym, ap, subst, ◌∙◌, arith}
+use Rattle.std.proofs.Common.{◌≡◌, ◌≢◌, ℕ, zero, suc, ◌+◌, ◌<◌, Bool, true, cond, List, [], ◌∷◌, ◌++◌, Some, None, length, length-append, refl, sym, ap, subst, ◌∙◌}
 use Rattle.std.specs.Prelude.{replicate, slice_index_or}
 use Rattle.std.proofs.lemmas.Bool.Decides.{same_from_decides}
 use Rattle.std.proofs.lemmas.List.{append-nil}
@@ -8,22 +8,21 @@ use Rattle.spl_base.specs.declared.TheConstants.{ACTORS}
 use Rattle.spl_message.specs.declared.call.Call.TheVariants as call
 use Rattle.spl_message.specs.declared.message.Message.{Message}
 use Rattle.spl_message.specs.Cell.{Cell}
-use Rattle.spl_message.specs.History.{Event, History, cell_at, messages_to}
+use Rattle.spl_message.specs.History.{Event, History, cell_at}
 use Rattle.spl_message.specs.Key.{same_key}
-use Rattle.spl_message.specs.Message.{act, act_all}
+use Rattle.spl_message.specs.Message.{act}
 use Rattle.spl_message.specs.declared.span.Span.{Span}
 use Rattle.spl_message.specs.Rule.{Rule}
 use Rattle.spl_message.proofs.Histories.{cell_at-more, act_all-cond}
-use Rattle.spl_tables.specs.Memtables.{FrozenData, MemtableData}
+use Rattle.spl_tables.specs.Memtables.{FrozenData}
 use Rattle.spl_state.specs.declared.actor.Actor.{Actor}
 use Rattle.spl_state.specs.declared.counters.Counters.{Counters}
-use Rattle.spl_state.specs.declared.descent.Descent.{Descent}
 use Rattle.spl_state.specs.declared.job.Job.{Job}
 use Rattle.spl_state.specs.declared.job.Job.TheVariants.{Pack, Merge}
 use Rattle.spl_state.specs.Actor.{idle, actor_in}
 use Rattle.spl_state.specs.Actors.{HasTable}
-use Rattle.spl_state.specs.Frame.{IsFramed, Others, counted, refused}
-use Rattle.spl_state.specs.Sight.{KeepsSight, KeepsNode, SeesNode, SeesSource}
+use Rattle.spl_state.specs.Frame.{IsFramed, Others, refused}
+use Rattle.spl_state.specs.Sight.{KeepsSight, SeesSource}
 use Rattle.spl_state.specs.Sound.{AreDrafts, IsEmpty, meaning}
 use Rattle.spl_state.specs.Whole.{Whole, branches}
 use Rattle.spl_steps.specs.Memory.{HasPut, placed}

@@ -1,3 +1,4 @@
 pub mod Counting
+pub mod Leaves
 pub mod Standing
 pub mod Steps

@@ -3,7 +3,7 @@ use Rattle.std.specs.Prelude.{◌≡◌, ℕ, Bool, true, false, List, [], ◌�
 use Rattle.spl_message.specs.declared.call.Call.TheVariants as call
 use Rattle.spl_message.specs.declared.message.Message.{Message}
 use Rattle.spl_message.specs.declared.span.Span.{Span}
-use Rattle.spl_message.specs.History.{Event, History, cell_at}
+use Rattle.spl_message.specs.History.{History, cell_at}
 use Rattle.spl_message.specs.Rule.{Rule}
 use Rattle.spl_message.specs.Table.{Table}
 use Rattle.spl_compact.specs.Installing.{MergesToNothing}

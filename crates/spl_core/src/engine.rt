@@ -1,5 +1,6 @@
 ghost use Rattle.spl_core.specs.Counting.{AreCounted};
 
+use crate::leaves::leaf_count;
 use crate::step::Step;
 use spl_abandon::abandon;
 use spl_base::{ACTORS, NoMemory};
@@ -34,6 +35,7 @@ impl<B: Content, L: MergeLaw> Core<B, L> {
     ghost use Rattle.spl_state.specs.Sight.{KeepsSight};
     ghost use Rattle.spl_state.specs.Sound.{AreDrafts, IsEmpty, IsSound};
     ghost use Rattle.spl_state.specs.View.{branch_data};
+    ghost use Rattle.spl_core.specs.Leaves.{leaf_count};
     ghost use Rattle.spl_core.specs.Standing.{StandsFor, Knows, called};
     ghost use Rattle.spl_core.specs.Steps.{IsStep};
 
@@ -58,6 +60,13 @@ impl<B: Content, L: MergeLaw> Core<B, L> {
         ensures sound { IsSound self.now.parts }
     {
         self.parts.counters.steps
+    }
+
+    /// How many leaves the trunk has.
+    pub fn leaves(&self) -> u32
+        ensures { result ≡ leaf_count self.now.parts.nodes }
+    {
+        leaf_count(&self.parts.trunk)
     }
 
     /// Makes the actor's step, and counts it, also where it is refused.

@@ -5,6 +5,7 @@
 #![tactic(auto)]
 
 mod engine;
+mod leaves;
 mod step;
 #[cfg(test)]
 mod tests;

@@ -1,5 +1,4 @@
-use Rattle.std.proofs.Common.{◌≡◌, List, [], ◌++◌, sym, subst, ap, ◌∙◌}
-use Rattle.spl_message.specs.History.{History}
+use Rattle.std.proofs.Common.{◌++◌, sym, subst, ap, ◌∙◌}
 use Rattle.spl_state.specs.declared.counters.Counters.{Counters}
 use Rattle.spl_state.specs.Frame.{refused}
 use Rattle.spl_state.specs.View.{branch_data}
