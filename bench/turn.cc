@@ -1,5 +1,5 @@
 // The steps of spl_turn_bench under a std::mutex: turn TURNS WORK.
-// g++ -O2 -std=c++17 -pthread bench/turn.cc -o turn
+// clang++ -O2 -std=c++17 -pthread bench/turn.cc -o turn
 #include <chrono>
 #include <cstdint>
 #include <cstdio>
@@ -15,7 +15,7 @@ static void work(uint32_t turns, uint32_t rounds) {
     for (uint32_t i = 0; i < turns; i++) {
         std::lock_guard<std::mutex> held(lock);
         uint64_t s = state;
-        for (uint32_t k = 0; k < rounds; k++) s = s * 6364136223846793005ull + 1442695040888963407ull;
+        for (uint32_t k = 0; k < rounds; k++) s = (s ^ (s >> 7)) * 6364136223846793005ull;
         state = s;
     }
 }

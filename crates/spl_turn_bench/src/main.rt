@@ -47,9 +47,7 @@ impl StandsFor for Mixer {
     fn step(&mut self, _actor: u32, step: Mix) -> u64 {
         let mut state = self.state;
         for _ in 0..step.rounds {
-            state = state
-                .wrapping_mul(6364136223846793005)
-                .wrapping_add(1442695040888963407);
+            state = (state ^ (state >> 7)).wrapping_mul(6364136223846793005);
         }
         self.state = state;
         state
@@ -104,7 +102,8 @@ fn measure<R: Clock + Print + AllocGlobal + Threads + Wait + Sync>(
     work_all(rt, &turn, seats.as_mut_slice(), turns / threads, rounds);
     let took = start.elapsed(rt)?.as_nanos();
     let each = took / u128::from(turns.max(1));
-    println!(rt; "{threads} threads: {each} ns a turn")?;
+    let state = turn.turn(rt, &mut first, Mix { rounds: 0 });
+    println!(rt; "{threads} threads: {each} ns a turn ({state})")?;
     Ok(())
 }
 

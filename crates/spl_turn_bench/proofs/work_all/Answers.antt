@@ -27,8 +27,17 @@ for_each_mut-requires-send-T g κs = λ κs' h. search (sendable, place_send)
 pub for_each_mut-requires-sync-F : goal.for_each_mut-requires-sync-F
 for_each_mut-requires-sync-F g κs = λ κs' h. let r = κs.type_bounds.sync-R in let t = mixer_sync in
     param_sync 2 (lts.arg-0-2 g.row.R g.R.laws g.R.Threads-dict g.R.Wait-dict κs') record {
-      shared = λ x b o κ. ((((λ _. tt), r.shared x.0.now x.0.ref_ptr.0 x.0.ref_ptr.1 _),
-        (((λ _. tt), t.shared x.1.now x.1.ref_ptr.0 x.1.ref_ptr.1 _),
-        (((λ _. tt), word_sync.shared x.2.now x.2.ref_ptr.0 x.2.ref_ptr.1 κ),
-        (((λ _. tt), word_sync.shared x.3.now x.3.ref_ptr.0 x.3.ref_ptr.1 κ), tt)))), λ _. tt);
+      shared = λ x b o κ. (
+        (
+          ((λ _. tt), r.shared x.0.now x.0.ref_ptr.0 x.0.ref_ptr.1 _),
+          (
+            ((λ _. tt), t.shared x.1.now x.1.ref_ptr.0 x.1.ref_ptr.1 _),
+            (
+              ((λ _. tt), word_sync.shared x.2.now x.2.ref_ptr.0 x.2.ref_ptr.1 κ),
+              (((λ _. tt), word_sync.shared x.3.now x.3.ref_ptr.0 x.3.ref_ptr.1 κ), tt),
+            ),
+          ),
+        ),
+        λ _. tt,
+      );
     }
