@@ -11,3 +11,6 @@ mod write;
 
 pub use puts::{delete, insert, put, update};
 pub use write::Write;
+
+#[cfg(test)]
+mod tests;
