@@ -1,6 +1,5 @@
 -- In an empty core no actor has anything.
-use Rattle.std.proofs.Common.{◌≡◌, ℕ, zero, suc, Bool, true, false, List, [], ◌∷◌, map, replicate, refl, ap, subst, sym, ◌∙◌}
-use Rattle.std.specs.Prelude.{Option, None, slice_index_or}
+use Rattle.std.proofs.Common.{◌≡◌, ℕ, zero, suc, false, List, [], ◌∷◌, replicate, refl, ap, ◌∙◌}
 use Rattle.spl_base.specs.declared.TheConstants.{ACTORS}
 use Rattle.spl_numbers.specs.Numbers.{has}
 use Rattle.spl_extent.specs.declared.owner.Owner.TheVariants.{Free as unowned}
