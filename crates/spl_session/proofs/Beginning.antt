@@ -1,5 +1,5 @@
 -- The begin of a descent, as a turn.
-use Rattle.std.proofs.Common.{◌≡◌, ℕ, ◌+◌, ◌<◌, Bool, true, false, if◌then◌else◌, List, [], ◌∷◌, ◌++◌, Option, Some, None, length, refl, sym, ap, ap₂, subst, ◌∙◌, set, append-nil, length-append, arith}
+use Rattle.std.proofs.Common.{◌≡◌, ℕ, ◌<◌, Bool, true, if◌then◌else◌, List, [], ◌∷◌, ◌++◌, Some, length, refl, sym, ap, ap₂, subst, ◌∙◌, append-nil, length-append, arith}
 use Rattle.std.specs.Prelude.{slice_get}
 use Rattle.std.proofs.lemmas.List.{get_or-set_same}
 use Rattle.spl_base.specs.declared.TheConstants.{ACTORS}
@@ -7,14 +7,11 @@ use Rattle.spl_message.specs.declared.call.Call.TheVariants as call
 use Rattle.spl_message.specs.Cell.{Cell}
 use Rattle.spl_message.specs.History.{Event, History, cell_at}
 use Rattle.spl_message.specs.Message.{act_all}
-use Rattle.spl_message.specs.Rule.{Rule}
-use Rattle.spl_message.specs.Table.{Table, chain}
+use Rattle.spl_message.specs.Table.{chain}
 use Rattle.spl_message.proofs.Histories.{cell_at-append}
 use Rattle.spl_holds.specs.Latch.{writer_of}
 use Rattle.spl_holds.specs.Holds.{grips_at}
 use Rattle.spl_trunk.specs.Trunk.{node_at}
-use Rattle.spl_node.specs.Node.{IsNode}
-use Rattle.spl_node.specs.Steps.{fresh, all_keys}
 use Rattle.spl_state.specs.declared.actor.Actor.{Actor}
 use Rattle.spl_state.specs.declared.descent.Descent.{Descent}
 use Rattle.spl_state.specs.declared.reply.Reply.{Reply}
@@ -23,22 +20,21 @@ use Rattle.spl_state.specs.declared.sight.Sight.{Sight}
 use Rattle.spl_state.specs.Actor.{actor_in, idle}
 use Rattle.spl_state.specs.Frame.{refused}
 use Rattle.spl_state.specs.Reply.{state_of}
-use Rattle.spl_state.specs.Sight.{KeepsSight}
-use Rattle.spl_state.specs.Sound.{IsSound, meaning}
+use Rattle.spl_state.specs.Sound.{IsSound}
 use Rattle.spl_state.specs.Whole.{Whole}
-use Rattle.spl_descent.specs.Descents.{arrived, begun, begin_refusal, first_descent, is_busy, unless_written}
+use Rattle.spl_descent.specs.Descents.{arrived, begun, first_descent, unless_written}
 use Rattle.spl_descent.specs.Sights.{Answers, IsSightOf, OnSight, rest}
 use Rattle.spl_descent.proofs.Begins.{means_at, right_first}
 use Rattle.spl_core.specs.declared.step.Step.{Step}
 use Rattle.spl_core.specs.declared.step.Step.TheVariants.{Begin}
-use Rattle.spl_core.specs.Standing.{StandsFor, begin_called, called}
+use Rattle.spl_core.specs.Standing.{StandsFor, called}
 use Rattle.spl_core.specs.Steps.{IsBeginning, IsStep}
 use Rattle.spl_desk.specs.Calls.{HasNothing, IsOnlyCall, MadeNoCall, span_of_key}
 use Rattle.spl_desk.specs.Holder.{BranchKind, Holder}
-use Rattle.spl_desk.specs.Turn.{MadeTurn, Turn, IsTurn, history_after}
-use Rattle.spl_desk.specs.Walk.{Went, calls_in, holder_at}
+use Rattle.spl_desk.specs.Turn.{MadeTurn, history_after}
+use Rattle.spl_desk.specs.Walk.{calls_in, holder_at}
 use Rattle.spl_desk.proofs.Walks.{still_nothing, went_turn}
-use Rattle.spl_session.specs.Descending.{Arrived, Began, IsFor, MaySee, OnSeen}
+use Rattle.spl_session.specs.Descending.{Arrived, Began, IsFor, MaySee}
 use Rattle.spl_session.proofs.Seeing as seeing
 
 -- an entry behind a list

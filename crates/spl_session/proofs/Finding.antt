@@ -1,10 +1,10 @@
 -- What a lookup has found at a node, and below it.
-use Rattle.std.proofs.Common.{◌≡◌, ℕ, ◌+◌, ◌<◌, ◌≤◌, ◌^◌, ◌-◌, min, Bool, true, false, ◌||◌, List, [], ◌∷◌, ◌++◌, Option, Some, None, map, option_to_list, refl, sym, ap, subst, ◌∙◌, arith}
+use Rattle.std.proofs.Common.{◌≡◌, ℕ, Bool, true, false, ◌||◌, List, ◌++◌, Option, Some, None, option_to_list, refl, sym, ap, ◌∙◌}
 use Rattle.spl_message.specs.declared.message.Message.{Message}
 use Rattle.spl_message.specs.Cell.{Cell}
-use Rattle.spl_message.specs.Message.{act, act_all, settle}
+use Rattle.spl_message.specs.Message.{act_all, settle}
 use Rattle.spl_message.specs.Rule.{Rule}
-use Rattle.spl_message.specs.Table.{Table, chain}
+use Rattle.spl_message.specs.Table.{chain}
 use Rattle.spl_trunk.specs.Trunk.{node_at}
 use Rattle.spl_state.specs.declared.sight.Sight.{Sight}
 use Rattle.spl_descent.specs.Sights.{below, rest, rest_below}

@@ -1,6 +1,6 @@
 -- A descent that goes on, and one that ends, as turns.
-use Rattle.std.proofs.Common.{◌≡◌, ◌≢◌, ℕ, ◌+◌, ◌<◌, Bool, true, false, if◌then◌else◌, nat_eq, List, [], ◌∷◌, ◌++◌, Option, Some, None, length, map, refl, sym, ap, ap₂, subst, ◌∙◌, set, append-nil, inl, inr, arith}
-use Rattle.std.specs.Prelude.{◌↔◌, IsSome, IsTrue, IfSome}
+use Rattle.std.proofs.Common.{◌≡◌, ◌≢◌, ℕ, ◌<◌, Bool, true, false, if◌then◌else◌, nat_eq, List, [], Option, Some, None, length, refl, sym, ap, ap₂, subst, ◌∙◌, append-nil, inl, inr, arith}
+use Rattle.std.specs.Prelude.{◌↔◌, IsSome, IfSome}
 use Rattle.std.proofs.lemmas.Bool.{cases_eq, false≢true}
 use Rattle.std.proofs.lemmas.Bool.Decides.{nat_tests}
 use Rattle.std.proofs.lemmas.List.{get_or-set_same}
@@ -12,15 +12,14 @@ use Rattle.spl_message.specs.Message.{act_all}
 use Rattle.spl_message.specs.declared.message.Message.{Message}
 use Rattle.spl_message.specs.declared.span.Span.{Span}
 use Rattle.spl_message.specs.Span.{InSpan}
-use Rattle.spl_message.specs.Rule.{Rule}
-use Rattle.spl_message.specs.Table.{Table, chain, part_of}
+use Rattle.spl_message.specs.Table.{Table, chain}
 use Rattle.spl_numbers.specs.Numbers.{has}
 use Rattle.spl_holds.specs.declared.grip.Grip.TheVariants.{Free}
 use Rattle.spl_holds.specs.Latch.{writer_of}
-use Rattle.spl_holds.specs.Holds.{grip_of, grips_at, with_grip}
+use Rattle.spl_holds.specs.Holds.{grip_of, grips_at}
 use Rattle.spl_holds.proofs.HoldsLemmas.{grip_of-with_grip, grip_of-with_grip_elsewhere}
 use Rattle.spl_node.specs.declared.pivot.Pivot.{Pivot}
-use Rattle.spl_node.specs.Node.{NodeData, IsNode, bare, pivot_at, pivot_for, span_of}
+use Rattle.spl_node.specs.Node.{NodeData, bare, pivot_at, pivot_for, span_of}
 use Rattle.spl_node.proofs.Places.{pivot_holds}
 use Rattle.spl_trunk.specs.Trunk.{node_at}
 use Rattle.spl_trunk.specs.Tree.{number_of}
@@ -36,8 +35,8 @@ use Rattle.spl_state.specs.Frame.{refused}
 use Rattle.spl_state.specs.Sight.{KeepsSight}
 use Rattle.spl_state.specs.Sound.{IsSound}
 use Rattle.spl_state.specs.Whole.{Whole}
-use Rattle.spl_descent.specs.Descents.{arrived, child_of, end_answer, end_at, ended, left_from, moved_down, moved_from, move_refusal, next_descent, refusal_from, unless_written}
-use Rattle.spl_descent.specs.Sights.{Answers, IfSight, IsSightOf, OnSight, rest, tables_seen}
+use Rattle.spl_descent.specs.Descents.{arrived, child_of, end_answer, end_at, ended, left_from, moved_from, next_descent, refusal_from, unless_written}
+use Rattle.spl_descent.specs.Sights.{Answers, IsSightOf, OnSight, rest, tables_seen}
 use Rattle.spl_descent.proofs.Arrivals.{child_is_lower}
 use Rattle.spl_descent.proofs.Downs.{leads_next, right_next}
 use Rattle.spl_descent.proofs.Ends.{descending}
@@ -48,7 +47,7 @@ use Rattle.spl_core.specs.Standing.{called}
 use Rattle.spl_core.specs.Steps.{IsAnswered, IsMove, IsStep}
 use Rattle.spl_desk.specs.Calls.{HasNothing, MadeNoCall}
 use Rattle.spl_desk.specs.Holder.{BranchKind, Holder}
-use Rattle.spl_desk.specs.Turn.{MadeTurn, Turn, IsTurn}
+use Rattle.spl_desk.specs.Turn.{MadeTurn}
 use Rattle.spl_desk.specs.Walk.{calls_in, holder_at}
 use Rattle.spl_desk.proofs.Walks.{went_turn}
 use Rattle.spl_session.specs.Descending.{Arrived, Descended, IsAt, IsFor, MaySee, Waits, descent_of, tables_in}

@@ -1,12 +1,10 @@
 -- What a descent that has come to a node knows there.
-use Rattle.std.proofs.Common.{◌≡◌, ◌≢◌, ℕ, zero, suc, ◌+◌, ◌<◌, Bool, true, false, ◌||◌, ◌&&◌, nat_lt, not, cond, List, [], ◌∷◌, ◌++◌, Option, Some, None, Result, Ok, Err, length, map, get_or, refl, sym, ap, subst, ◌∙◌, arith}
+use Rattle.std.proofs.Common.{◌≡◌, ◌≢◌, ℕ, zero, suc, ◌+◌, ◌<◌, Bool, true, false, ◌||◌, nat_lt, not, cond, List, [], ◌∷◌, ◌++◌, Option, Some, None, Result, Ok, Err, length, map, get_or, refl, sym, ap, subst, ◌∙◌, arith}
 use Rattle.std.specs.Prelude.{◌↔◌, IsTrue, count_by, is_some}
 use Rattle.std.proofs.lemmas.List.Sums.{sum_by-append}
 use Rattle.std.proofs.lemmas.List.Elements.{All-get_or}
 use Rattle.std.proofs.lemmas.Simd.{map-map}
 use Rattle.spl_message.specs.declared.span.Span.{Span}
-use Rattle.spl_message.specs.Key.{is_below}
-use Rattle.spl_message.specs.Rule.{Rule}
 use Rattle.spl_message.specs.Span.{InSpan, is_before, is_from, in_span}
 use Rattle.spl_message.specs.Table.{Table, part_of}
 use Rattle.spl_message.proofs.Bounds.{least_above}
@@ -17,8 +15,6 @@ use Rattle.spl_holds.specs.declared.grip.Grip.{Grip}
 use Rattle.spl_holds.specs.declared.grip.Grip.TheVariants.{Free}
 use Rattle.spl_holds.specs.Grip.{is_read, is_claim, is_write}
 use Rattle.spl_holds.specs.Latch.{grip_in}
-use Rattle.spl_holds.specs.Holds.{grip_of}
-use Rattle.spl_holds.specs.Counts.{reads_of, claims_of, writes_of}
 use Rattle.spl_node.specs.Node.{NodeData, IsNode, bare, pivot_for, span_of}
 use Rattle.spl_node.specs.Steps.{fresh}
 use Rattle.spl_node.proofs.Places.{pivot_holds}
@@ -34,11 +30,10 @@ use Rattle.spl_state.specs.Reply.{state_of}
 use Rattle.spl_state.specs.Sound.{IsSound}
 use Rattle.spl_state.specs.Whole.{Whole, branches, table_in}
 use Rattle.spl_descent.specs.Descents.{is_busy, live_under, span_under, unless_written}
-use Rattle.spl_descent.specs.Sights.{Answers, AreBranches, IsRight, IsSightOf, OnSight, tables_seen}
+use Rattle.spl_descent.specs.Sights.{Answers, IsRight, IsSightOf, OnSight, tables_seen}
 use Rattle.spl_descent.proofs.Named.{shared_tables}
 use Rattle.spl_desk.specs.Calls.{HasNothing, span_of_key}
 use Rattle.spl_desk.specs.Holder.{BranchKind, Holder}
-use Rattle.spl_desk.specs.Walk.{holder_at}
 use Rattle.spl_session.specs.Descending.{Arrived, IsAt, IsFor, MaySee, OnSeen, descent_of, tables_in}
 
 none_counted : {A : Type 0} (p : A → Bool) (xs : List A) → ((i : ℕ) (d : A) → i < length xs → p (get_or xs i d) ≡ false) → count_by p xs ≡ 0

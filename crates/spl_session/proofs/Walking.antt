@@ -1,5 +1,5 @@
 -- Walks of a lookup, one behind the other.
-use Rattle.std.proofs.Common.{◌≡◌, ℕ, ◌+◌, ◌<◌, ◌≤◌, true, List, [], ◌∷◌, ◌++◌, Some, length, refl, sym, ap, subst, ◌∙◌, length-append, arith}
+use Rattle.std.proofs.Common.{◌≡◌, ℕ, ◌+◌, ◌<◌, true, List, [], ◌∷◌, ◌++◌, length, refl, sym, ap, subst, ◌∙◌, length-append, arith}
 use Rattle.std.specs.Prelude.{slice_get}
 use Rattle.std.proofs.lemmas.Option.{slice_get_within}
 use Rattle.spl_message.specs.declared.call.Call.TheVariants as call
@@ -7,18 +7,15 @@ use Rattle.spl_message.specs.Cell.{Cell}
 use Rattle.spl_message.specs.History.{History, cell_at}
 use Rattle.spl_message.specs.Message.{act_all}
 use Rattle.spl_message.specs.Rule.{Rule}
-use Rattle.spl_message.specs.Span.{InSpan}
 use Rattle.spl_message.specs.Table.{chain}
 use Rattle.spl_message.proofs.Histories.{cell_at-append}
 use Rattle.spl_state.specs.declared.sight.Sight.{Sight}
-use Rattle.spl_state.specs.Whole.{Whole}
 use Rattle.spl_descent.specs.Sights.{rest}
 use Rattle.spl_desk.specs.Calls.{IsOnlyCall, Looked, MadeCall, MadeNoCall, span_of_key}
 use Rattle.spl_desk.specs.Holder.{BranchKind, Holder, IsSameHolder}
-use Rattle.spl_desk.specs.Turn.{Turn}
-use Rattle.spl_desk.specs.Walk.{Walks, Went, calls_in}
+use Rattle.spl_desk.specs.Walk.{calls_in}
 use Rattle.spl_desk.proofs.Walks.{IsAlike, calls_on, get_before, went_none, went_on, walks_more}
-use Rattle.spl_session.specs.Descending.{Began, Descended, IsFor, IsSameCaller, Waits, tables_in}
+use Rattle.spl_session.specs.Descending.{Began, Descended, IsSameCaller, Waits, tables_in}
 
 pub alike : {old new : Holder} → IsSameCaller old new → IsAlike old new
 alike same = record { alone = same.alone; actor = same.actor; rule = same.rule }

@@ -3,7 +3,6 @@ use Rattle.std.specs.Prelude.{◌≡◌, ◌≢◌, ℕ, ◌≤◌, ◌↔◌, I
 use Rattle.spl_message.specs.declared.span.Span.{Span}
 use Rattle.spl_message.specs.Message.{act_all}
 use Rattle.spl_message.specs.History.{History, cell_at}
-use Rattle.spl_message.specs.Rule.{Rule}
 use Rattle.spl_message.specs.Span.{InSpan}
 use Rattle.spl_message.specs.Table.{Table, chain, part_of}
 use Rattle.spl_message.specs.declared.call.Call.TheVariants as call
@@ -17,7 +16,7 @@ use Rattle.spl_state.specs.declared.sight.Sight.{Sight}
 use Rattle.spl_state.specs.Actor.{actor_in}
 use Rattle.spl_state.specs.Sound.{IsSound}
 use Rattle.spl_descent.specs.Sights.{IsRight, rest, tables_seen}
-use Rattle.spl_desk.specs.Calls.{IsOnlyCall, MadeNoCall, MayCall, IsSpentAt, span_of_key}
+use Rattle.spl_desk.specs.Calls.{IsOnlyCall, IsSpentAt, span_of_key}
 use Rattle.spl_desk.specs.declared.fault.CallFault.{CallFault}
 use Rattle.spl_desk.specs.declared.fault.CallFault.TheVariants.{Spent, NoMemory}
 use Rattle.spl_desk.specs.Holder.{BranchKind, Holder}

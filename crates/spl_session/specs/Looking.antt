@@ -1,5 +1,5 @@
 -- Why a lookup is stopped.
-use Rattle.std.specs.Prelude.{◌≡◌, Bool, ◌||◌, Option}
+use Rattle.std.specs.Prelude.{Bool, ◌||◌, Option}
 use Rattle.spl_message.specs.declared.message.Message.{Message}
 use Rattle.spl_port.specs.Counts.{Counts, Rose}
 use Rattle.spl_branch.specs.Branch.{Branch}

@@ -2,7 +2,7 @@ use Rattle.std.proofs.Common.{◌≡◌, ℕ, ◌++◌, option_to_list, ap, sym,
 use Rattle.std.proofs.lemmas.Simd.{map-map}
 use Rattle.spl_message.specs.declared.message.Message.{Message}
 use Rattle.spl_message.specs.Table.{Table, chain}
-use Rattle.spl_branch.specs.Branch.{Branch, table_of}
+use Rattle.spl_branch.specs.Branch.{table_of}
 use Rattle.spl_session.specs.Asking.{Folds}
 use Rattle.spl_session.proofs.Asking.{decided_from, from}
 use Rattle.spl_session.proofs.ask.ask_branches.Goals as goal

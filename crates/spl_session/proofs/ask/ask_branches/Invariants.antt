@@ -1,4 +1,4 @@
-use Rattle.std.proofs.Common.{◌≡◌, true, ℕ, ◌≤◌, ◌++◌, length, option_to_list}
+use Rattle.std.proofs.Common.{◌≡◌, true, ◌≤◌, ◌++◌, length, option_to_list}
 use Rattle.spl_branch.specs.Branch.{table_of}
 use Rattle.spl_branch.specs.Reading.{OnlyReads}
 use Rattle.spl_session.specs.Asking.{Folds}

@@ -1,4 +1,4 @@
-use Rattle.std.proofs.Common.{◌≡◌, ℕ, zero, [], ◌++◌, ap, sym, subst, ◌∙◌, List, map, append-nil, arith}
+use Rattle.std.proofs.Common.{◌≡◌, ℕ, [], ◌++◌, ap, sym, subst, ◌∙◌, List, map, append-nil, arith}
 use Rattle.std.proofs.lemmas.List.{map-id}
 use Rattle.spl_message.specs.declared.message.Message.{Message}
 use Rattle.spl_message.specs.Table.{Table, chain}

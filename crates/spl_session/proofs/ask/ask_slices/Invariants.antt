@@ -1,4 +1,4 @@
-use Rattle.std.proofs.Common.{ℕ, ◌≤◌, [], ◌++◌, length}
+use Rattle.std.proofs.Common.{◌≤◌, [], ◌++◌, length}
 use Rattle.spl_message.specs.Table.{Table}
 use Rattle.spl_session.specs.Asking.{Folds}
 use Rattle.spl_session.proofs.Asking.{from}

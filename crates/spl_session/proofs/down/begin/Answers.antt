@@ -1,12 +1,11 @@
-use Rattle.std.proofs.Common.{◌≡◌, sym, subst, Result, Err, arith}
+use Rattle.std.proofs.Common.{sym, subst, Result, arith}
 use Rattle.std.specs.Prelude.{MatchResult}
 use Rattle.std.proofs.lemmas.Result.{err_from_is_err_and}
-use Rattle.spl_message.specs.History.{History}
 use Rattle.spl_state.specs.View.{branch_data}
 use Rattle.spl_desk.specs.Calls.{MadeNoCall}
 use Rattle.spl_desk.specs.Holder.{kind_of}
 use Rattle.spl_desk.proofs.Walks.{none_then_none}
-use Rattle.spl_session.specs.Descending.{Began, OnSeen}
+use Rattle.spl_session.specs.Descending.{Began}
 use Rattle.spl_session.proofs.Walking.{alike, began_behind, same_on}
 use Rattle.spl_session.proofs.down.begin.Goals as goal
 

@@ -1,4 +1,4 @@
-use Rattle.std.proofs.Common.{ℕ, ◌^◌, ◌-◌}
+use Rattle.std.proofs.Common.{◌^◌, ◌-◌}
 use Rattle.spl_message.specs.History.{History}
 use Rattle.spl_state.specs.View.{branch_data}
 use Rattle.spl_desk.specs.Calls.{MadeFew, MadeNoCall, MayCall}

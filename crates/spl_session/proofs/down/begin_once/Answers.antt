@@ -1,6 +1,5 @@
-use Rattle.std.proofs.Common.{◌≡◌, ◌<◌, ◌++◌, ◌∷◌, [], ℕ, Some, sym, ap, subst}
+use Rattle.std.proofs.Common.{◌<◌, ℕ, sym, subst}
 use Rattle.spl_base.specs.declared.TheConstants.{ACTORS}
-use Rattle.spl_message.specs.declared.span.Span.{Span}
 use Rattle.spl_message.specs.History.{History}
 use Rattle.spl_state.specs.View.{branch_data}
 use Rattle.spl_core.specs.declared.step.Step.TheVariants.{Begin}

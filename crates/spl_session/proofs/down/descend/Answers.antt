@@ -1,5 +1,4 @@
-use Rattle.std.proofs.Common.{◌≡◌, sym, subst, refl, arith}
-use Rattle.spl_message.specs.History.{History}
+use Rattle.std.proofs.Common.{refl, arith}
 use Rattle.spl_state.specs.View.{branch_data}
 use Rattle.spl_desk.specs.Holder.{kind_of}
 use Rattle.spl_desk.proofs.Walks.{none_then_none}

@@ -1,4 +1,4 @@
-use Rattle.std.proofs.Common.{◌≡◌, ◌<◌, subst, ℕ}
+use Rattle.std.proofs.Common.{◌<◌, subst, ℕ}
 use Rattle.spl_base.specs.declared.TheConstants.{ACTORS}
 use Rattle.spl_state.specs.View.{branch_data}
 use Rattle.spl_desk.specs.Holder.{kind_of}

@@ -1,6 +1,4 @@
-use Rattle.std.proofs.Common.{◌≡◌, true, Option, None, ◌++◌, option_to_list, sym, ap, subst, ◌∙◌, map, arith}
-use Rattle.spl_message.specs.declared.message.Message.{Message}
-use Rattle.spl_message.specs.History.{History}
+use Rattle.std.proofs.Common.{◌≡◌, true, None, ◌++◌, option_to_list, sym, ap, subst, ◌∙◌, map, arith}
 use Rattle.spl_message.specs.Message.{act_all}
 use Rattle.spl_message.specs.Rule.{Rule}
 use Rattle.spl_message.specs.Table.{chain}
@@ -9,7 +7,6 @@ use Rattle.spl_descent.specs.Sights.{rest}
 use Rattle.spl_desk.specs.Branches.{branch_kind}
 use Rattle.spl_desk.proofs.Walks.{none_then_none}
 use Rattle.spl_session.specs.Asking.{Folds}
-use Rattle.spl_session.specs.Descending.{Descended}
 use Rattle.spl_session.proofs.Finding.{found_last, found_on}
 use Rattle.spl_session.proofs.Walking.{alike, same_then}
 use Rattle.spl_session.proofs.look.find.Given.{Over}

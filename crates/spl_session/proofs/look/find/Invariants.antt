@@ -1,4 +1,4 @@
-use Rattle.std.proofs.Common.{◌≡◌, ℕ, ◌^◌, ◌-◌, true, option_to_list}
+use Rattle.std.proofs.Common.{◌≡◌, ◌^◌, ◌-◌, true, option_to_list}
 use Rattle.spl_message.specs.History.{History}
 use Rattle.spl_message.specs.Message.{act_all}
 use Rattle.spl_branch.specs.Reading.{OnlyReads}

@@ -1,7 +1,5 @@
-use Rattle.std.proofs.Common.{◌≡◌, subst, List, ℕ}
-use Rattle.spl_message.specs.Cell.{Cell}
+use Rattle.std.proofs.Common.{◌≡◌, subst}
 use Rattle.spl_message.specs.declared.call.Call.TheVariants as call
-use Rattle.spl_message.specs.History.{History}
 use Rattle.spl_message.specs.Message.{act_all}
 use Rattle.spl_message.specs.Rule.{Rule}
 use Rattle.spl_message.specs.Table.{chain}

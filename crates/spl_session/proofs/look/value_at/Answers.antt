@@ -1,5 +1,5 @@
-use Rattle.std.proofs.Common.{◌≡◌, sym, ap, subst, ◌∙◌}
-use Rattle.spl_message.specs.Message.{act_all, settle}
+use Rattle.std.proofs.Common.{ap, subst, ◌∙◌}
+use Rattle.spl_message.specs.Message.{settle}
 use Rattle.spl_message.specs.Rule.{Rule}
 use Rattle.spl_message.specs.Table.{chain}
 use Rattle.spl_descent.specs.Sights.{rest}
