@@ -6,3 +6,4 @@ pub mod Walking
 pub mod Finding
 pub mod Tries
 pub mod Stays
+pub mod Fresh

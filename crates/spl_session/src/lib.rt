@@ -20,3 +20,6 @@ pub use found::{Found, Stopped};
 pub use look::lookup;
 pub use puts::{delete, insert, put, update};
 pub use write::Write;
+
+#[cfg(test)]
+mod tests;

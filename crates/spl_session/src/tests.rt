@@ -1,0 +1,41 @@
+use crate::{delete, insert, update};
+use spl_alone::Alone;
+use spl_branch::Branch;
+use spl_core::Core;
+use spl_desk::{CallFault, Desk, Room, Turns};
+use spl_message::{Key, MergeLaw, Newest, Value};
+use spl_pager::{Direct, Pager};
+use spl_port::{MemPort, Port};
+use std::test::Fail;
+
+/// A room that does nothing.
+struct Idle;
+
+impl Room for Idle {
+    fn room<T: Turns<Branch<P::Seal>>, P: Port, G: Pager, L: MergeLaw>(
+        &self,
+        _desk: &mut Desk<'_, T, P, G, L>,
+    ) -> Result<(), CallFault> {
+        Ok(())
+    }
+}
+
+#[test]
+fn puts_have_places_in_their_order(rt: HostRuntime) -> Result<(), Fail> {
+    let alloc = rt.alloc();
+    let core = Core::new(alloc, 8, 1, Newest)?;
+    let mut port = MemPort::new(alloc);
+    let mut desk = Desk {
+        alloc,
+        turns: Alone::new(core),
+        port: &mut port,
+        pager: &Direct,
+        law: &Newest,
+    };
+    let key = Key::read(b"a")?;
+    let value = Value::read(alloc, b"1")?;
+    assert_eq!(rt; insert(&mut desk, &Idle, &key, &value)?, 0);
+    assert_eq!(rt; update(&mut desk, &Idle, &key, &value)?, 1);
+    assert_eq!(rt; delete(&mut desk, &Idle, &key)?, 2);
+    Ok(())
+}
