@@ -1,5 +1,7 @@
 use spl_desk::CallFault;
 use spl_message::Value;
+use std::error::Error;
+use std::fmt;
 
 /// What a lookup found.
 #[derive(Debug, Drop)]
@@ -16,3 +18,11 @@ pub struct Stopped {
     /// The place that its descent has, where that had begun.
     pub place: Option<u64>,
 }
+
+impl fmt::Display for Stopped {
+    fn fmt<W: fmt::Write>(&self, f: &mut fmt::Formatter<W>) -> fmt::Result {
+        write!(f, "{}", self.fault)
+    }
+}
+
+impl Error for Stopped {}
