@@ -29,7 +29,7 @@ max = record {
   joins_within = λ key older newer is_older is_newer. greater_is_value older newer is_older is_newer;
 }
 
--- the end of the bytes in a row
+-- the last 512 bytes of the cell followed by the operand
 abbrev pub tail : Rule
 tail = record {
   apply = λ key cell operand. end_of (bytes_at cell ++ operand);

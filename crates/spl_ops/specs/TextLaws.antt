@@ -1,4 +1,4 @@
--- The greatest of three texts, and the end of three texts in a row, are found in any order of steps.
+-- The greatest of three texts, and the last bytes of three texts in a row, however they are grouped.
 use Rattle.std.proofs.Common.{◌≡◌, ℕ, ◌+◌, ◌-◌, ◌<◌, ◌≤◌, ◌⊎◌, inl, inr, Bool, true, false, cond, List, ◌++◌, length, drop, Some, None, Ordering, refl, ap, ◌∙◌, sym, arith}
 use Rattle.std.proofs.lemmas.Bool.{cases_lt}
 use Rattle.std.proofs.lemmas.Cmp.{nat_list_cmp_total, upto}

@@ -9,13 +9,13 @@ use std::alloc::Global;
 /// A law by its name.
 #[derive(Clone, Copy, Debug, PartialEq, Eq)]
 pub enum Kind {
-    /// The sum of the numbers, which wraps at 2^64.
+    /// Adds the numbers. The sum wraps at 2^64.
     Add,
-    /// The greatest value by bytes, where a proper prefix is less.
+    /// Keeps the greater value by bytes. A proper prefix is less.
     Max,
-    /// The last 512 bytes of the operands in a row.
+    /// Appends the operand and keeps the last 512 bytes.
     Tail,
-    /// The sum of the numbers, at most this cap.
+    /// Adds the numbers, up to this cap.
     Capped(u64),
 }
 

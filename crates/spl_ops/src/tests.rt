@@ -3,13 +3,13 @@ use spl_message::{Key, MergeLaw, NoMemory, Value};
 use std::alloc::Global;
 use std::test::Fail;
 
-const ADD_MAX: &str = "18446744073709551615";
+const GREATEST: &str = "18446744073709551615";
 
 fn value(alloc: Global, text: &str) -> Result<Value, Fail> {
     Ok(Value::read(alloc, text.as_bytes())?)
 }
 
-/// What the law makes of the old value, or of none where that is no text.
+/// What the law makes of the old value, or of none.
 fn applied<L: MergeLaw>(
     alloc: Global,
     law: &L,
@@ -38,7 +38,7 @@ fn each_law_folds_an_operand_into_a_value(rt: HostRuntime) -> Result<(), Fail> {
     let alloc = rt.alloc();
     for (kind, old, operand, expected) in [
         (Kind::Add, None, "07", "7"),
-        (Kind::Add, Some(ADD_MAX), "1", "0"),
+        (Kind::Add, Some(GREATEST), "1", "0"),
         (Kind::Add, Some("18446744073709551616"), "2", "2"),
         (Kind::Add, Some("1x"), "", "0"),
         (Kind::Max, None, "b", "b"),

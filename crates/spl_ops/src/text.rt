@@ -16,7 +16,7 @@ pub fn copy_greater(older: &Value, newer: &Value) -> Result<Value, NoMemory>
     }
 }
 
-/// The value of the last bytes of the two in a row. They are put together on the stack.
+/// The last 512 bytes of the older bytes followed by the newer ones. They are put together on the stack.
 pub fn join_ends(alloc: Global, older: &[u8], newer: &[u8]) -> Result<Value, NoMemory>
     requires older { length older.now ≤ 512 }
     requires newer { length newer.now ≤ 512 }
