@@ -1,7 +1,6 @@
 -- What the steps that publish and hang a branch tell.
-use Rattle.std.proofs.Common.{◌≡◌, ◌≢◌, ℕ, zero, suc, ◌+◌, ◌<◌, Bool, true, false, cond, List, [], ◌∷◌, Option, Some, None, length, set, slice_get, refl, sym, ap, subst, ◌∙◌, arith}
+use Rattle.std.proofs.Common.{◌≡◌, ◌≢◌, ℕ, ◌<◌, Bool, true, false, cond, Option, Some, None, length, set, slice_get, refl, sym, ap, subst, ◌∙◌, arith}
 use Rattle.std.specs.Prelude.{All, is_some, nat_lt, ◌||◌}
-use Rattle.std.proofs.lemmas.Bool.{cases_lt}
 use Rattle.std.proofs.lemmas.Bool.Decides.{nat_tests}
 use Rattle.std.proofs.lemmas.List.{get_or-set_same}
 use Rattle.std.proofs.lemmas.Option.{same_Some}
@@ -9,11 +8,9 @@ use Rattle.spl_base.specs.declared.TheConstants.{ACTORS}
 use Rattle.spl_message.specs.History.{History}
 use Rattle.spl_message.specs.Rule.{Rule}
 use Rattle.spl_message.specs.Table.{Table}
-use Rattle.spl_numbers.specs.Numbers.{ListsEach}
-use Rattle.spl_extent.specs.Pool.{granted_to}
 use Rattle.spl_holds.specs.declared.grip.Grip.{Grip}
 use Rattle.spl_holds.specs.declared.grip.Grip.TheVariants as grip
-use Rattle.spl_holds.specs.Grip.{may_write, is_claim, is_held, is_write}
+use Rattle.spl_holds.specs.Grip.{may_write, is_claim, is_held}
 use Rattle.spl_holds.specs.Holds.{grip_of, grips_at}
 use Rattle.spl_holds.specs.Latch.{IsLatched, claimant_of, first_reader_of}
 use Rattle.spl_holds.proofs.HoldsLemmas.{grip_of-with_grip, grip_of-with_grip_elsewhere}
@@ -27,12 +24,11 @@ use Rattle.spl_state.specs.declared.reply.Reply.TheVariants as reply
 use Rattle.spl_state.specs.Actor.{actor_in, idle, with_draft, with_job}
 use Rattle.spl_state.specs.Frame.{refused}
 use Rattle.spl_state.specs.Reply.{state_of}
-use Rattle.spl_state.specs.Sound.{IsSound}
-use Rattle.spl_state.specs.Whole.{BranchData, Whole, branches}
+use Rattle.spl_state.specs.Whole.{Whole, branches}
 use Rattle.spl_state.proofs.Replaced.{one_number}
 use Rattle.spl_steps.specs.Latching.{claim_answer, lock_answer, unlock_answer, unless_held, gripped}
-use Rattle.spl_pack.specs.Publishing.{AsksFor, IsAskedFor, MayPublish, Publishes, held_all, job_number}
-use Rattle.spl_pack.specs.Incorporating.{incorporate_answer, incorporated, older_than, packed_by, ready_in, unless_older, where_ready}
+use Rattle.spl_pack.specs.Publishing.{AsksFor, IsAskedFor, MayPublish, held_all, job_number}
+use Rattle.spl_pack.specs.Incorporating.{incorporated, older_than, ready_in, unless_older, where_ready}
 use Rattle.spl_pack.proofs.Owners.{none_granted}
 use Rattle.spl_core.specs.declared.step.Step.{Step}
 use Rattle.spl_core.specs.declared.step.Step.TheVariants.{Claim, Lock, Unlock, Publish, Incorporate}

@@ -119,10 +119,12 @@ pub(crate) fn add<P: Port, T: Turns<Branch<P::Seal>>>(
         (branch_kind P.Seal.TELLS) (T.means turns.old) history (T.means turns.new) (T.saw turns.new)
         (P.counts port.old) (P.counts port.new)) }
 {
-    if add_once(port, builder, key, message)? == Add::Done {
-        return Ok(());
+    match add_once(port, builder, key, message)? {
+        Add::Done => Ok(()),
+        Add::Needs => {
+            extend(turns, builder)?;
+            add_once(port, builder, key, message)?;
+            Ok(())
+        }
     }
-    extend(turns, builder)?;
-    let _ = add_once(port, builder, key, message)?;
-    Ok(())
 }

@@ -90,7 +90,10 @@ pub(crate) fn grant<B: Content, T: Turns<B>>(turns: &mut T) -> Option<u32>
 }
 
 /// Publishes the branch, which holds the granted extents from then on.
-pub(crate) fn publish<B: Content, T: Turns<B>>(turns: &mut T, branch: Arc<B>) -> Result<(), NoMemory>
+pub(crate) fn publish<B: Content, T: Turns<B>>(
+    turns: &mut T,
+    branch: Arc<B>,
+) -> Result<(), NoMemory>
     requires turns { (T.means turns.old).turns < 2 ^ 41 }
     requires ready { T.ready turns.old }
     requires seen { HasSeen (T.saw turns.old) }
