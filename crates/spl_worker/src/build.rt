@@ -3,7 +3,7 @@ ghost use Rattle.std.specs.Prelude.{◌≡◌, ◌≢◌, ◌<◌, ◌^◌, ◌�
 ghost use Rattle.spl_message.specs.History.{History};
 ghost use Rattle.spl_message.specs.Key.{is_below};
 ghost use Rattle.spl_port.specs.Port.{WritesOne};
-ghost use Rattle.spl_build.specs.Builder.{Adds, HasNoRoom};
+ghost use Rattle.spl_build.specs.Builder.{Adds, Builds, HasNoRoom, IfBuilt, Needs};
 ghost use Rattle.spl_build.specs.declared.stage.Stage.TheVariants.{Adding, Over};
 ghost use Rattle.spl_desk.specs.Branches.{branch_kind};
 ghost use Rattle.spl_desk.specs.Calls.{MadeFew, MadeNoCall, NeverFell};
@@ -14,7 +14,7 @@ ghost use Rattle.spl_worker.specs.Packing.{IsPacking, Packing};
 
 use crate::steps::grant;
 use spl_branch::Branch;
-use spl_build::{Add, BuildFault, Builder};
+use spl_build::{Add, BuildFault, Builder, Finish};
 use spl_desk::{CallFault, Turns};
 use spl_message::{Key, Message};
 use spl_page::LentMessage;
@@ -126,5 +126,24 @@ pub(crate) fn add<P: Port, T: Turns<Branch<P::Seal>>>(
             add_once(port, builder, key, message)?;
             Ok(())
         }
+    }
+}
+
+/// Writes the pages that are left, as far as there are extents for them.
+pub(crate) fn finish_once<P: Port>(
+    port: &mut P,
+    builder: &mut Builder<P>,
+) -> Result<Finish<P::Seal>, CallFault>
+    requires stopped { builder.old.stopped ≡ None }
+    requires stage { builder.old.stage ≢ Over }
+    ensures empty { IfOk result (λ answer. (answer ≡ Finish.Empty) ↔ (builder.old.entries ≡ 0)) }
+    ensures needs { result ≡ Ok Finish.Needs → Needs P.Seal.TELLS builder.old builder.new }
+    ensures built { IfOk result (λ answer. IfBuilt answer (λ branch. Builds P.Seal.TELLS builder.old branch)) }
+    ensures counts { NeverFell (P.counts port.old) (P.counts port.new) }
+    ensures cause { IfErr result (HasPageCause (P.counts port.old) (P.counts port.new)) }
+{
+    match builder.finish(port) {
+        Ok(answer) => Ok(answer),
+        Err(fault) => Err(of_build(fault)),
     }
 }
