@@ -1,7 +1,7 @@
 //! What workers do over a desk: a frozen memtable becomes a branch, which is hung at the root in its place.
 //!
-//! Each step of the core is one function, which says what the actor has afterwards. The branch is built between the steps, in
-//! extents that are granted only where the next page needs one, so nothing is granted that the branch does not hold.
+//! Each step of the core is one function, which says what the actor has afterwards. A branch is written between
+//! two steps, and an extent is granted only where the next page needs one.
 #![tactic(auto)]
 
 mod build;
