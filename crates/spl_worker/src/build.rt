@@ -111,7 +111,8 @@ pub(crate) fn add<P: Port, T: Turns<Branch<P::Seal>>>(
     ensures few { MadeFew (T.means turns.old) (T.means turns.new) 0 }
     ensures ready { T.ready turns.new }
     ensures seen { HasSeen (T.saw turns.new) }
-    ensures adds { OnOk result (AddsAt P.Seal.TELLS (T.means turns.old) (T.means turns.new) builder.old builder.new key.now message.now) }
+    ensures adds { OnOk result (AddsAt P.Seal.TELLS (T.means turns.old) (T.means turns.new)
+        builder.old builder.new key.now message.now) }
     ensures counts { NeverFell (P.counts port.old) (P.counts port.new) }
     ensures no_call { (history : History) → T.saw turns.old history
         → MadeNoCall (branch_kind P.Seal.TELLS) (T.means turns.old) history (T.means turns.new) (T.saw turns.new) }

@@ -27,7 +27,7 @@ const ROOT: u32 = 0;
 pub(crate) enum Hanging {
     /// The branch is the newest bundle of the root.
     Done,
-    /// An older frozen memtable stands, which this actor picked.
+    /// An older frozen memtable stands, picked by this actor.
     NotOldest { by: Option<u32> },
     /// The root has as many bundles as it can have.
     NeedsFlush,
@@ -184,7 +184,7 @@ pub(crate) fn unlock_root<B: Content, T: Turns<B>>(turns: &mut T)
     }
 }
 
-/// Hangs the published branch at the root, in the place of its memtable, where that is the oldest and the root has room.
+/// Hangs the published branch at the root in the place of its memtable, where that is the oldest and there is room.
 pub(crate) fn incorporate<B: Content, T: Turns<B>>(turns: &mut T) -> Hanging
     requires turns { (T.means turns.old).turns < 2 ^ 41 }
     requires ready { T.ready turns.old }
