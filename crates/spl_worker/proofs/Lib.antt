@@ -1,0 +1,4 @@
+pub mod Packs
+pub mod Granted
+pub mod Hangs
+pub mod Adding

@@ -1,0 +1,84 @@
+use Rattle.std.proofs.Common.{◌<◌, ℕ, refl, subst}
+use Rattle.spl_base.specs.declared.TheConstants.{ACTORS}
+use Rattle.spl_core.specs.declared.step.Step.TheVariants.{Publish}
+use Rattle.spl_desk.proofs.Walks.{no_call}
+use Rattle.spl_worker.proofs.Hangs.{asks_for, publish_answers, publish_done, publish_memory}
+use Rattle.spl_state.specs.View.{branch_data}
+use Rattle.spl_desk.specs.Holder.{kind_of}
+use Rattle.spl_worker.proofs.steps.publish.Goals as goal
+
+pub returns-in-Done-clause-packs : goal.returns-in-Done-clause-packs
+returns-in-Done-clause-packs g c =
+    let kind = kind_of g.B.Content.number (branch_data g.B.Content.extents g.B.Content.entries g.B.Content.cuts g.B.Content.table) g.B.Content.TELLS in
+    let old = g.T.Turns.means c.args.turns.now in
+    let new = g.T.Turns.means c.take_turn.new.turns in
+    let saw = g.T.Turns.saw c.take_turn.new.turns in
+    let made = c.take_turn.ensures in
+    let seen = c.requires.seen in
+    publish_done kind old new seen.0 c.take_turn.result saw made.same c.args.branch (made.turn seen.0 seen.1) (subst (λ (n : ℕ). n < ACTORS) c.actor.ensures.value c.actor.ensures.known) c.in-Done.is
+
+pub returns-in-Done-clause-seen : goal.returns-in-Done-clause-seen
+returns-in-Done-clause-seen g c =
+    let kind = kind_of g.B.Content.number (branch_data g.B.Content.extents g.B.Content.entries g.B.Content.cuts g.B.Content.table) g.B.Content.TELLS in
+    let old = g.T.Turns.means c.args.turns.now in
+    let new = g.T.Turns.means c.take_turn.new.turns in
+    let saw = g.T.Turns.saw c.take_turn.new.turns in
+    let made = c.take_turn.ensures in
+    let seen = c.requires.seen in
+    (_, (made.turn seen.0 seen.1).saw)
+
+pub returns-in-Done-clause-no_call : goal.returns-in-Done-clause-no_call
+returns-in-Done-clause-no_call g c =
+    let kind = kind_of g.B.Content.number (branch_data g.B.Content.extents g.B.Content.entries g.B.Content.cuts g.B.Content.table) g.B.Content.TELLS in
+    let old = g.T.Turns.means c.args.turns.now in
+    let new = g.T.Turns.means c.take_turn.new.turns in
+    let saw = g.T.Turns.saw c.take_turn.new.turns in
+    let made = c.take_turn.ensures in
+    let seen = c.requires.seen in
+    λ history had. no_call kind old new history (Publish c.args.branch) c.take_turn.result saw (made.turn history had) refl
+
+pub returns-in-NoMemory-clause-packs : goal.returns-in-NoMemory-clause-packs
+returns-in-NoMemory-clause-packs g c =
+    let kind = kind_of g.B.Content.number (branch_data g.B.Content.extents g.B.Content.entries g.B.Content.cuts g.B.Content.table) g.B.Content.TELLS in
+    let old = g.T.Turns.means c.args.turns.now in
+    let new = g.T.Turns.means c.take_turn.new.turns in
+    let saw = g.T.Turns.saw c.take_turn.new.turns in
+    let made = c.take_turn.ensures in
+    let seen = c.requires.seen in
+    publish_memory kind old new seen.0 c.take_turn.result saw made.same c.args.branch (made.turn seen.0 seen.1) c.in-NoMemory.is
+
+pub returns-in-NoMemory-clause-seen : goal.returns-in-NoMemory-clause-seen
+returns-in-NoMemory-clause-seen g c =
+    let kind = kind_of g.B.Content.number (branch_data g.B.Content.extents g.B.Content.entries g.B.Content.cuts g.B.Content.table) g.B.Content.TELLS in
+    let old = g.T.Turns.means c.args.turns.now in
+    let new = g.T.Turns.means c.take_turn.new.turns in
+    let saw = g.T.Turns.saw c.take_turn.new.turns in
+    let made = c.take_turn.ensures in
+    let seen = c.requires.seen in
+    (_, (made.turn seen.0 seen.1).saw)
+
+pub returns-in-NoMemory-clause-no_call : goal.returns-in-NoMemory-clause-no_call
+returns-in-NoMemory-clause-no_call g c =
+    let kind = kind_of g.B.Content.number (branch_data g.B.Content.extents g.B.Content.entries g.B.Content.cuts g.B.Content.table) g.B.Content.TELLS in
+    let old = g.T.Turns.means c.args.turns.now in
+    let new = g.T.Turns.means c.take_turn.new.turns in
+    let saw = g.T.Turns.saw c.take_turn.new.turns in
+    let made = c.take_turn.ensures in
+    let seen = c.requires.seen in
+    λ history had. no_call kind old new history (Publish c.args.branch) c.take_turn.result saw (made.turn history had) refl
+
+pub unreachable-requires : goal.unreachable-requires
+unreachable-requires g c =
+    let kind = kind_of g.B.Content.number (branch_data g.B.Content.extents g.B.Content.entries g.B.Content.cuts g.B.Content.table) g.B.Content.TELLS in
+    let old = g.T.Turns.means c.args.turns.now in
+    let new = g.T.Turns.means c.take_turn.new.turns in
+    let saw = g.T.Turns.saw c.take_turn.new.turns in
+    let made = c.take_turn.ensures in
+    let seen = c.requires.seen in
+    publish_answers kind old new seen.0 c.take_turn.result saw made.same c.args.branch (made.turn seen.0 seen.1) g.B.Content.TELLS (g.B.Content.table c.args.branch.value) c.requires.packs c.in_default.not-Done c.in_default.not-NoMemory
+
+pub take_turn-requires-clause-knows : goal.take_turn-requires-clause-knows
+take_turn-requires-clause-knows g c = λ tells.
+    let packs = c.requires.packs in
+    let old = g.T.Turns.means c.args.turns.now in
+    asks_for old.rule old packs.0 packs.1 (g.B.Content.table c.args.branch.value) (packs.2.table_is tells)

@@ -1,0 +1,48 @@
+use Rattle.std.proofs.Common.{◌<◌, ℕ, refl, subst}
+use Rattle.spl_base.specs.declared.TheConstants.{ACTORS}
+use Rattle.spl_core.specs.declared.step.Step.TheVariants.{Unlock}
+use Rattle.spl_desk.proofs.Walks.{no_call}
+use Rattle.spl_worker.proofs.Hangs.{unlock_answers, unlock_done}
+use Rattle.spl_state.specs.View.{branch_data}
+use Rattle.spl_desk.specs.Holder.{kind_of}
+use Rattle.spl_worker.proofs.steps.unlock_root.Goals as goal
+
+pub returns-clause-packs : goal.returns-clause-packs
+returns-clause-packs g c =
+    let kind = kind_of g.B.Content.number (branch_data g.B.Content.extents g.B.Content.entries g.B.Content.cuts g.B.Content.table) g.B.Content.TELLS in
+    let old = g.T.Turns.means c.args.turns.now in
+    let new = g.T.Turns.means c.take_turn.new.turns in
+    let saw = g.T.Turns.saw c.take_turn.new.turns in
+    let made = c.take_turn.ensures in
+    let seen = c.requires.seen in
+    unlock_done kind old new seen.0 c.take_turn.result saw made.same (made.turn seen.0 seen.1) (subst (λ (n : ℕ). n < ACTORS) c.actor.ensures.value c.actor.ensures.known) c.in-Done.is
+
+pub returns-clause-seen : goal.returns-clause-seen
+returns-clause-seen g c =
+    let kind = kind_of g.B.Content.number (branch_data g.B.Content.extents g.B.Content.entries g.B.Content.cuts g.B.Content.table) g.B.Content.TELLS in
+    let old = g.T.Turns.means c.args.turns.now in
+    let new = g.T.Turns.means c.take_turn.new.turns in
+    let saw = g.T.Turns.saw c.take_turn.new.turns in
+    let made = c.take_turn.ensures in
+    let seen = c.requires.seen in
+    (_, (made.turn seen.0 seen.1).saw)
+
+pub returns-clause-no_call : goal.returns-clause-no_call
+returns-clause-no_call g c =
+    let kind = kind_of g.B.Content.number (branch_data g.B.Content.extents g.B.Content.entries g.B.Content.cuts g.B.Content.table) g.B.Content.TELLS in
+    let old = g.T.Turns.means c.args.turns.now in
+    let new = g.T.Turns.means c.take_turn.new.turns in
+    let saw = g.T.Turns.saw c.take_turn.new.turns in
+    let made = c.take_turn.ensures in
+    let seen = c.requires.seen in
+    λ history had. no_call kind old new history (Unlock 0) c.take_turn.result saw (made.turn history had) refl
+
+pub unreachable-requires : goal.unreachable-requires
+unreachable-requires g c =
+    let kind = kind_of g.B.Content.number (branch_data g.B.Content.extents g.B.Content.entries g.B.Content.cuts g.B.Content.table) g.B.Content.TELLS in
+    let old = g.T.Turns.means c.args.turns.now in
+    let new = g.T.Turns.means c.take_turn.new.turns in
+    let saw = g.T.Turns.saw c.take_turn.new.turns in
+    let made = c.take_turn.ensures in
+    let seen = c.requires.seen in
+    c.in_default.not-Done (unlock_answers kind old new seen.0 c.take_turn.result saw made.same (made.turn seen.0 seen.1) c.requires.packs)
