@@ -6,6 +6,8 @@
 
 mod engine;
 mod leaves;
+#[cfg(test)]
+mod random;
 mod step;
 #[cfg(test)]
 mod tests;
