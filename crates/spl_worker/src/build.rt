@@ -26,7 +26,7 @@ const MOST_TURNS: u64 = 1 << 40;
 const _: () = prove!(MOST_TURNS == 1_099_511_627_776);
 
 /// Gives the builder one more extent, which is granted.
-pub(crate) fn extend<P: Port, T: Turns<Branch<P::Seal>>>(
+pub fn extend<P: Port, T: Turns<Branch<P::Seal>>>(
     turns: &mut T,
     builder: &mut Builder<P>,
 ) -> Result<(), CallFault>
@@ -92,7 +92,7 @@ fn of_build(fault: BuildFault) -> CallFault
 }
 
 /// Adds the key with its message to the branch, which is granted one more extent where the next page has none.
-pub(crate) fn add<P: Port, T: Turns<Branch<P::Seal>>>(
+pub fn add<P: Port, T: Turns<Branch<P::Seal>>>(
     turns: &mut T,
     port: &mut P,
     builder: &mut Builder<P>,
@@ -131,7 +131,7 @@ pub(crate) fn add<P: Port, T: Turns<Branch<P::Seal>>>(
 }
 
 /// Writes the pages that are left, as far as there are extents for them.
-pub(crate) fn finish_once<P: Port>(
+pub fn finish_once<P: Port>(
     port: &mut P,
     builder: &mut Builder<P>,
 ) -> Result<Finish<P::Seal>, CallFault>

@@ -4,5 +4,5 @@
 //! two steps, and an extent is granted only where the next page needs one.
 #![tactic(auto)]
 
-mod build;
-mod steps;
+pub mod build;
+pub mod steps;

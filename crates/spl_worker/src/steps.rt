@@ -24,7 +24,7 @@ const ROOT: u32 = 0;
 
 /// What hanging a branch at the root comes to.
 #[derive(Clone, Copy, Debug, PartialEq, Eq)]
-pub(crate) enum Hanging {
+pub enum Hanging {
     /// The branch is the newest bundle of the root.
     Done,
     /// An older frozen memtable stands, picked by this actor.
@@ -35,13 +35,13 @@ pub(crate) enum Hanging {
 
 /// A memtable that is to be packed into the branch with this number.
 #[derive(Drop)]
-pub(crate) struct Picked {
-    pub(crate) number: u64,
-    pub(crate) table: Slice,
+pub struct Picked {
+    pub number: u64,
+    pub table: Slice,
 }
 
 /// Picks the oldest frozen memtable that nobody picked, where there is one.
-pub(crate) fn pick<B: Content, T: Turns<B>>(turns: &mut T) -> Result<Option<Picked>, NoMemory>
+pub fn pick<B: Content, T: Turns<B>>(turns: &mut T) -> Result<Option<Picked>, NoMemory>
     requires turns { (T.means turns.old).turns < 2 ^ 41 }
     requires ready { T.ready turns.old }
     requires seen { HasSeen (T.saw turns.old) }
@@ -64,7 +64,7 @@ pub(crate) fn pick<B: Content, T: Turns<B>>(turns: &mut T) -> Result<Option<Pick
 }
 
 /// Grants a free extent, where there is one.
-pub(crate) fn grant<B: Content, T: Turns<B>>(turns: &mut T) -> Option<u32>
+pub fn grant<B: Content, T: Turns<B>>(turns: &mut T) -> Option<u32>
     requires turns { (T.means turns.old).turns < 2 ^ 41 }
     requires ready { T.ready turns.old }
     requires seen { HasSeen (T.saw turns.old) }
@@ -90,10 +90,7 @@ pub(crate) fn grant<B: Content, T: Turns<B>>(turns: &mut T) -> Option<u32>
 }
 
 /// Publishes the branch, which holds the granted extents from then on.
-pub(crate) fn publish<B: Content, T: Turns<B>>(
-    turns: &mut T,
-    branch: Arc<B>,
-) -> Result<(), NoMemory>
+pub fn publish<B: Content, T: Turns<B>>(turns: &mut T, branch: Arc<B>) -> Result<(), NoMemory>
     requires turns { (T.means turns.old).turns < 2 ^ 41 }
     requires ready { T.ready turns.old }
     requires seen { HasSeen (T.saw turns.old) }
@@ -117,7 +114,7 @@ pub(crate) fn publish<B: Content, T: Turns<B>>(
 }
 
 /// Takes a claim on the root, where nobody else has one or writes the root.
-pub(crate) fn claim_root<B: Content, T: Turns<B>>(turns: &mut T) -> bool
+pub fn claim_root<B: Content, T: Turns<B>>(turns: &mut T) -> bool
     requires turns { (T.means turns.old).turns < 2 ^ 41 }
     requires ready { T.ready turns.old }
     requires seen { HasSeen (T.saw turns.old) }
@@ -140,7 +137,7 @@ pub(crate) fn claim_root<B: Content, T: Turns<B>>(turns: &mut T) -> bool
 }
 
 /// Makes the claim on the root a write, where nobody reads the root.
-pub(crate) fn lock_root<B: Content, T: Turns<B>>(turns: &mut T) -> bool
+pub fn lock_root<B: Content, T: Turns<B>>(turns: &mut T) -> bool
     requires turns { (T.means turns.old).turns < 2 ^ 41 }
     requires ready { T.ready turns.old }
     requires seen { HasSeen (T.saw turns.old) }
@@ -163,7 +160,7 @@ pub(crate) fn lock_root<B: Content, T: Turns<B>>(turns: &mut T) -> bool
 }
 
 /// Ends the claim or write on the root.
-pub(crate) fn unlock_root<B: Content, T: Turns<B>>(turns: &mut T)
+pub fn unlock_root<B: Content, T: Turns<B>>(turns: &mut T)
     requires turns { (T.means turns.old).turns < 2 ^ 41 }
     requires ready { T.ready turns.old }
     requires seen { HasSeen (T.saw turns.old) }
@@ -185,7 +182,7 @@ pub(crate) fn unlock_root<B: Content, T: Turns<B>>(turns: &mut T)
 }
 
 /// Hangs the published branch at the root in the place of its memtable, where that is the oldest and there is room.
-pub(crate) fn incorporate<B: Content, T: Turns<B>>(turns: &mut T) -> Hanging
+pub fn incorporate<B: Content, T: Turns<B>>(turns: &mut T) -> Hanging
     requires turns { (T.means turns.old).turns < 2 ^ 41 }
     requires ready { T.ready turns.old }
     requires seen { HasSeen (T.saw turns.old) }
@@ -210,7 +207,7 @@ pub(crate) fn incorporate<B: Content, T: Turns<B>>(turns: &mut T) -> Hanging
 }
 
 /// Gives back all that the actor has.
-pub(crate) fn abandon<B: Content, T: Turns<B>>(turns: &mut T)
+pub fn abandon<B: Content, T: Turns<B>>(turns: &mut T)
     requires turns { (T.means turns.old).turns < 2 ^ 41 }
     requires ready { T.ready turns.old }
     requires seen { HasSeen (T.saw turns.old) }
