@@ -611,7 +611,7 @@ fn choose_run(random: &mut Random, seat: &mut Seat, view: &View) {
 }
 
 /// What becomes of the plan.
-#[derive(Clone, Copy, PartialEq, Eq)]
+#[derive(Clone, Copy)]
 enum Then {
     Next,
     Again,
