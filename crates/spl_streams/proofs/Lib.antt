@@ -1,0 +1,10 @@
+pub mod Places
+pub mod Wanted
+pub mod Feeding
+pub mod Stepping
+pub mod Steps
+pub mod Starting
+pub mod Above
+pub mod Going
+pub mod Whole
+pub mod Building

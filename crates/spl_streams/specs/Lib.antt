@@ -1,0 +1,4 @@
+pub mod Above
+pub mod Building
+pub mod Merging
+pub mod Streams
