@@ -97,14 +97,17 @@ impl<P: Port> Builder<P> {
         }
     }
 
-    /// Hands in one more extent, which the builder begins when it writes the first page there.
+    /// Hands in one more extent, which the builder begins when it writes the first page there. A branch has at most 65,536.
     pub fn give(&mut self, extent: u32) -> Result<(), NoMemory>
-        requires extents { length self.old.extents < 65536 }
         requires stopped { self.old.stopped ≡ None }
         requires stage { self.old.stage ≢ Stage.Over }
+        ensures full { 65536 ≤ length self.old.extents → OnOk result ⊥ }
         ensures ok { OnOk result (self.new ≡ record self.old { extents = self.old.extents ++ extent ∷ [] }) }
         ensures err { OnErr result (self.new ≡ self.old) }
     {
+        if self.work.has_most_extents() {
+            return Err(NoMemory);
+        }
         self.work.give(extent)
     }
 

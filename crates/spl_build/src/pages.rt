@@ -12,6 +12,11 @@ use std::alloc::Global;
 use std::marker::Model;
 use std::mem;
 
+/// So many extents a branch has at most.
+const MOST_EXTENTS: usize = 65_536;
+
+const _: () = prove!(MOST_EXTENTS == 65_536);
+
 /// The pages of a branch while they are written.
 #[derive(Drop)]
 pub(crate) struct Pages<P: Port> {
@@ -102,6 +107,13 @@ impl<P: Port> Pages<P> {
         ensures extents { length self.now.extents ≤ 65536 }
     {
         self.count() as usize == self.front.extents.len() * EXTENT_PAGES as usize
+    }
+
+    /// Whether it has as many extents as a branch can have.
+    pub(crate) fn has_most_extents(&self) -> bool
+        ensures { IsTrue result ↔ (65536 ≤ length self.now.extents) }
+    {
+        self.front.extents.len() >= MOST_EXTENTS
     }
 
     /// Takes one more extent.

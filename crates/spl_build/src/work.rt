@@ -84,6 +84,13 @@ impl<P: Port> Work<P> {
         self.keys.hashes.is_empty()
     }
 
+    /// Whether it has as many extents as a branch can have.
+    pub(crate) fn has_most_extents(&self) -> bool
+        ensures { IsTrue result ↔ (65536 ≤ length self.now.written.extents) }
+    {
+        self.pages.has_most_extents()
+    }
+
     pub(crate) fn give(&mut self, extent: u32) -> Result<(), NoMemory>
         requires { length self.old.written.extents < 65536 }
         ensures ok { OnOk result (self.new ≡ record self.old {
