@@ -35,6 +35,17 @@ pub record HasCalled (old new : Holder) : Type 0 where
   pub turns : old.turns ≤ new.turns
   pub nothing : HasNothing new.at new.actor
 
+-- the holder has seen some history
+abbrev pub HasSeen : (History → Type 0) → Type 0
+HasSeen Saw = (history : History) × Saw history
+
+-- the same holder, which made more steps or none
+pub record IsSameCaller (old new : Holder) : Type 0 where
+  pub alone : new.alone ≡ old.alone
+  pub actor : new.actor ≡ old.actor
+  pub rule : new.rule ≡ old.rule
+  pub turns : old.turns ≤ new.turns
+
 -- no count of the device fell
 pub record NeverFell (old new : Counts) : Type 0 where
   pub faults : old.faults ≤ new.faults

@@ -6,10 +6,8 @@
 
 mod desk;
 mod fault;
-mod room;
 mod turns;
 
 pub use desk::Desk;
 pub use fault::CallFault;
-pub use room::Room;
 pub use turns::{Exchange, Turns, take_turn};

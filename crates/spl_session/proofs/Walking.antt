@@ -11,11 +11,11 @@ use Rattle.spl_message.specs.Table.{chain}
 use Rattle.spl_message.proofs.Histories.{cell_at-append}
 use Rattle.spl_state.specs.declared.sight.Sight.{Sight}
 use Rattle.spl_descent.specs.Sights.{rest}
-use Rattle.spl_desk.specs.Calls.{IsOnlyCall, Looked, MadeCall, MadeNoCall, span_of_key}
+use Rattle.spl_desk.specs.Calls.{IsOnlyCall, IsSameCaller, Looked, MadeCall, MadeNoCall, span_of_key}
 use Rattle.spl_desk.specs.Holder.{BranchKind, Holder, IsSameHolder}
 use Rattle.spl_desk.specs.Walk.{calls_in}
 use Rattle.spl_desk.proofs.Walks.{IsAlike, calls_on, get_before, went_none, went_on, walks_more}
-use Rattle.spl_session.specs.Descending.{Began, Descended, IsSameCaller, Waits, tables_in}
+use Rattle.spl_session.specs.Descending.{Began, Descended, Waits, tables_in}
 
 pub alike : {old new : Holder} → IsSameCaller old new → IsAlike old new
 alike same = record { alone = same.alone; actor = same.actor; rule = same.rule }

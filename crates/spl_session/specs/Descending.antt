@@ -22,21 +22,10 @@ use Rattle.spl_desk.specs.declared.fault.CallFault.TheVariants.{Spent, NoMemory}
 use Rattle.spl_desk.specs.Holder.{BranchKind, Holder}
 use Rattle.spl_desk.specs.Walk.{Went}
 
--- the holder has seen some history
-abbrev pub HasSeen : (History → Type 0) → Type 0
-HasSeen Saw = (history : History) × Saw history
-
 -- the span begins at the key, and has it
 pub record IsFor (key : List ℕ) (span : Span) : Type 0 where
   pub from : span.from ≡ Some key
   pub inside : InSpan span key
-
--- the same holder, which made more steps or none
-pub record IsSameCaller (old new : Holder) : Type 0 where
-  pub alone : new.alone ≡ old.alone
-  pub actor : new.actor ≡ old.actor
-  pub rule : new.rule ≡ old.rule
-  pub turns : old.turns ≤ new.turns
 
 -- the holder has made as many steps as it may, or memory ran out
 abbrev pub HasTurnCause : Holder → CallFault → Type 0

@@ -4,9 +4,9 @@ ghost use Rattle.spl_message.specs.History.{History};
 ghost use Rattle.spl_state.specs.declared.sight.Sight.{Sight};
 ghost use Rattle.spl_state.specs.declared.reply.Reply.TheVariants.{Sight as sighted};
 ghost use Rattle.spl_state.specs.View.{branch_data};
-ghost use Rattle.spl_desk.specs.Calls.{MadeFew, MadeNoCall, MayCall};
+ghost use Rattle.spl_desk.specs.Calls.{HasSeen, IsSameCaller, MadeFew, MadeNoCall, MayCall};
 ghost use Rattle.spl_desk.specs.Holder.{IsSameHolder, kind_of};
-ghost use Rattle.spl_session.specs.Descending.{Arrived, Began, Descended, HasSeen, HasTurnCause, IsAt, IsFor, IsSameCaller, MaySee, OnSeen, Waits};
+ghost use Rattle.spl_session.specs.Descending.{Arrived, Began, Descended, HasTurnCause, IsAt, IsFor, MaySee, OnSeen, Waits};
 
 use spl_base::NoMemory;
 use spl_core::Step;

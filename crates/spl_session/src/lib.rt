@@ -13,12 +13,14 @@ mod down;
 mod found;
 mod look;
 mod puts;
+mod room;
 mod steps;
 mod write;
 
 pub use found::{Found, Stopped};
 pub use look::lookup;
 pub use puts::{delete, insert, put, update};
+pub use room::Room;
 pub use write::Write;
 
 #[cfg(test)]

@@ -7,8 +7,8 @@ ghost use Rattle.spl_message.specs.declared.call.Call.TheVariants as call;
 ghost use Rattle.spl_branch.specs.Reading.{OnlyReads};
 ghost use Rattle.spl_descent.specs.Sights.{rest};
 ghost use Rattle.spl_desk.specs.Branches.{branch_kind};
-ghost use Rattle.spl_desk.specs.Calls.{HasCalled, Looked, MadeCall, MadeFew, MadeNoCall, MayCall, NeverFell, span_of_key};
-ghost use Rattle.spl_session.specs.Descending.{Arrived, HasSeen, IsFor, IsSameCaller};
+ghost use Rattle.spl_desk.specs.Calls.{HasCalled, HasSeen, IsSameCaller, Looked, MadeCall, MadeFew, MadeNoCall, MayCall, NeverFell, span_of_key};
+ghost use Rattle.spl_session.specs.Descending.{Arrived, IsFor};
 ghost use Rattle.spl_session.specs.Looking.{HasLookCause, is_last};
 
 use crate::ask::{ask_branches, ask_slices, is_decided};
@@ -48,6 +48,7 @@ fn find<T: Turns<Branch<P::Seal>>, P: Port, G: Pager, L: MergeLaw>(
     ensures ready { T.ready desk.new.turns }
     ensures seen { HasSeen (T.saw desk.new.turns) }
     ensures law { desk.new.law.now ≡ desk.old.law.now }
+    ensures device { desk.new.port.ghost_name ≡ desk.old.port.ghost_name }
     ensures pager { desk.new.pager.now ≡ desk.old.pager.now }
     ensures value { P.Seal.TELLS ≡ true → IfOk result (λ all. let rule = (T.means desk.old.turns).rule in
         act_all rule key.now None (option_to_list all)
@@ -97,6 +98,7 @@ fn value_at<T: Turns<Branch<P::Seal>>, P: Port, G: Pager, L: MergeLaw>(
     ensures ready { T.ready desk.new.turns }
     ensures seen { HasSeen (T.saw desk.new.turns) }
     ensures law { desk.new.law.now ≡ desk.old.law.now }
+    ensures device { desk.new.port.ghost_name ≡ desk.old.port.ghost_name }
     ensures pager { desk.new.pager.now ≡ desk.old.pager.now }
     ensures value { P.Seal.TELLS ≡ true → IfOk result (λ value. let rule = (T.means desk.old.turns).rule in
         value ≡ act_all rule key.now (rest rule (T.means desk.old.turns).at sight.node key.now) (chain sight.tables key.now)) }
@@ -127,6 +129,7 @@ pub fn lookup<T: Turns<Branch<P::Seal>>, P: Port, G: Pager, L: MergeLaw>(
     ensures few { MadeFew (T.means desk.old.turns) (T.means desk.new.turns) 1 }
     ensures ready { T.ready desk.new.turns }
     ensures law { desk.new.law.now ≡ desk.old.law.now }
+    ensures device { desk.new.port.ghost_name ≡ desk.old.port.ghost_name }
     ensures pager { desk.new.pager.now ≡ desk.old.pager.now }
     ensures looked { (history : History) → T.saw desk.old.turns history → IfOk result (λ found. Looked
         (branch_kind P.Seal.TELLS) (T.means desk.old.turns) history (T.means desk.new.turns) (T.saw desk.new.turns)

@@ -7,10 +7,11 @@ ghost use Rattle.spl_desk.specs.Calls.{HasCalled, MadeCall, MadeFew, MadeNoCall,
 ghost use Rattle.spl_desk.specs.Causes.{HasCallCause};
 ghost use Rattle.spl_session.specs.Writes.{message_of};
 
+use crate::Room;
 use crate::steps::{Progress, attempt_or_give_up};
 use crate::write::Write;
 use spl_branch::Branch;
-use spl_desk::{CallFault, Desk, Room, Turns};
+use spl_desk::{CallFault, Desk, Turns};
 use spl_message::{Key, MergeLaw, Value};
 use spl_pager::Pager;
 use spl_port::Port;
@@ -37,6 +38,7 @@ pub fn put<T: Turns<Branch<P::Seal>>, P: Port, G: Pager, L: MergeLaw, M: Room>(
     ensures failed { (history : History) → T.saw desk.old.turns history → OnErr result (MadeNoCall (branch_kind P.Seal.TELLS)
         (T.means desk.old.turns) history (T.means desk.new.turns) (T.saw desk.new.turns)) }
     ensures law { desk.new.law.now ≡ desk.old.law.now }
+    ensures device { desk.new.port.ghost_name ≡ desk.old.port.ghost_name }
     ensures pager { desk.new.pager.now ≡ desk.old.pager.now }
     ensures port { NeverFell (P.counts desk.old.port.now) (P.counts desk.new.port.now) }
     ensures ok_few { OnOk result (MadeFew (T.means desk.old.turns) (T.means desk.new.turns) 0) }
@@ -74,6 +76,7 @@ pub fn insert<T: Turns<Branch<P::Seal>>, P: Port, G: Pager, L: MergeLaw, M: Room
     ensures failed { (history : History) → T.saw desk.old.turns history → OnErr result (MadeNoCall (branch_kind P.Seal.TELLS)
         (T.means desk.old.turns) history (T.means desk.new.turns) (T.saw desk.new.turns)) }
     ensures law { desk.new.law.now ≡ desk.old.law.now }
+    ensures device { desk.new.port.ghost_name ≡ desk.old.port.ghost_name }
     ensures pager { desk.new.pager.now ≡ desk.old.pager.now }
     ensures port { NeverFell (P.counts desk.old.port.now) (P.counts desk.new.port.now) }
     ensures ok_few { OnOk result (MadeFew (T.means desk.old.turns) (T.means desk.new.turns) 0) }
@@ -104,6 +107,7 @@ pub fn delete<T: Turns<Branch<P::Seal>>, P: Port, G: Pager, L: MergeLaw, M: Room
     ensures failed { (history : History) → T.saw desk.old.turns history → OnErr result (MadeNoCall (branch_kind P.Seal.TELLS)
         (T.means desk.old.turns) history (T.means desk.new.turns) (T.saw desk.new.turns)) }
     ensures law { desk.new.law.now ≡ desk.old.law.now }
+    ensures device { desk.new.port.ghost_name ≡ desk.old.port.ghost_name }
     ensures pager { desk.new.pager.now ≡ desk.old.pager.now }
     ensures port { NeverFell (P.counts desk.old.port.now) (P.counts desk.new.port.now) }
     ensures ok_few { OnOk result (MadeFew (T.means desk.old.turns) (T.means desk.new.turns) 0) }
@@ -135,6 +139,7 @@ pub fn update<T: Turns<Branch<P::Seal>>, P: Port, G: Pager, L: MergeLaw, M: Room
     ensures failed { (history : History) → T.saw desk.old.turns history → OnErr result (MadeNoCall (branch_kind P.Seal.TELLS)
         (T.means desk.old.turns) history (T.means desk.new.turns) (T.saw desk.new.turns)) }
     ensures law { desk.new.law.now ≡ desk.old.law.now }
+    ensures device { desk.new.port.ghost_name ≡ desk.old.port.ghost_name }
     ensures pager { desk.new.pager.now ≡ desk.old.pager.now }
     ensures port { NeverFell (P.counts desk.old.port.now) (P.counts desk.new.port.now) }
     ensures ok_few { OnOk result (MadeFew (T.means desk.old.turns) (T.means desk.new.turns) 0) }

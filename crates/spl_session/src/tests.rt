@@ -1,8 +1,8 @@
-use crate::{delete, insert, lookup, update};
+use crate::{Room, delete, insert, lookup, update};
 use spl_alone::Alone;
 use spl_branch::Branch;
 use spl_core::Core;
-use spl_desk::{CallFault, Desk, Room, Turns};
+use spl_desk::{CallFault, Desk, Turns};
 use spl_message::{Key, MergeLaw, Newest, Value};
 use spl_pager::{Direct, Pager};
 use spl_port::{MemPort, Port};

@@ -1,9 +1,8 @@
 use Rattle.std.proofs.Common.{◌^◌, ◌-◌}
 use Rattle.spl_message.specs.History.{History}
 use Rattle.spl_state.specs.View.{branch_data}
-use Rattle.spl_desk.specs.Calls.{MadeFew, MadeNoCall, MayCall}
+use Rattle.spl_desk.specs.Calls.{HasSeen, IsSameCaller, MadeFew, MadeNoCall, MayCall}
 use Rattle.spl_desk.specs.Holder.{kind_of}
-use Rattle.spl_session.specs.Descending.{HasSeen, IsSameCaller}
 use Rattle.spl_session.proofs.down.begin.Given as goal
 
 abbrev pub invariant-loop-turns : goal.invariant-loop-turns

@@ -1,9 +1,9 @@
 use Rattle.std.proofs.Common.{◌^◌, ◌-◌}
 use Rattle.spl_message.specs.History.{History}
 use Rattle.spl_state.specs.View.{branch_data}
-use Rattle.spl_desk.specs.Calls.{MadeFew, MadeNoCall}
+use Rattle.spl_desk.specs.Calls.{HasSeen, IsSameCaller, MadeFew, MadeNoCall}
 use Rattle.spl_desk.specs.Holder.{kind_of}
-use Rattle.spl_session.specs.Descending.{HasSeen, IsSameCaller, Waits}
+use Rattle.spl_session.specs.Descending.{Waits}
 use Rattle.spl_session.proofs.down.descend.Given as goal
 
 abbrev pub invariant-loop-turns : goal.invariant-loop-turns

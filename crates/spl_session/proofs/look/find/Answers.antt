@@ -60,6 +60,7 @@ down-preserved g c =
       ready = c.in_ok-sight.ensures.ready;
       seen = c.in_ok-sight.ensures.seen;
       law = c.down.invariant.law;
+      device = c.down.invariant.device;
       pager = c.down.invariant.pager;
       arrived = moved.arrived;
       wanted = moved.keeps key c.down.invariant.wanted;

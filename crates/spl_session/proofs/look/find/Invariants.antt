@@ -4,8 +4,8 @@ use Rattle.spl_message.specs.Message.{act_all}
 use Rattle.spl_branch.specs.Reading.{OnlyReads}
 use Rattle.spl_descent.specs.Sights.{rest}
 use Rattle.spl_desk.specs.Branches.{branch_kind}
-use Rattle.spl_desk.specs.Calls.{MadeFew, MadeNoCall}
-use Rattle.spl_session.specs.Descending.{Arrived, HasSeen, IsFor, IsSameCaller}
+use Rattle.spl_desk.specs.Calls.{HasSeen, IsSameCaller, MadeFew, MadeNoCall}
+use Rattle.spl_session.specs.Descending.{Arrived, IsFor}
 use Rattle.spl_session.proofs.look.find.Given as goal
 
 abbrev pub invariant-down : goal.invariant-down
@@ -19,6 +19,7 @@ invariant-down g l =
       ready : g.T.Turns.ready l.desk.turns;
       seen : HasSeen (g.T.Turns.saw l.desk.turns);
       law : l.desk.law.now ≡ l.initial.desk.law.now;
+      device : l.desk.port.ghost_name ≡ l.initial.desk.port.ghost_name;
       pager : l.desk.pager.now ≡ l.initial.desk.pager.now;
       arrived : Arrived kind now l.sight;
       wanted : IsFor l.key l.sight.span;

@@ -58,6 +58,7 @@ loop-place-preserved-in-Again g c =
       ready = c.attempt_or_give_up.ensures.ready;
       no_call = none;
       law = inv.law;
+      device = inv.device;
       pager = inv.pager;
       port = inv.port;
       few = let below = c.in_ok-place.ensures.ok_few in omega (arith, below);
@@ -85,6 +86,7 @@ loop-place-preserved g c =
       ready = c.room.ensures.ready;
       no_call = no_call_then kind old new after was saw seen (alike_of old new called) none c.room.ensures.no_call;
       law = c.room.ensures.law ∙ inv.law;
+      device = c.room.ensures.device ∙ inv.device;
       pager = c.room.ensures.pager ∙ inv.pager;
       port = fell_on (g.P.Port.counts c.args.desk.now.port.now) (g.P.Port.counts c.loop-place.desk.port.now) (g.P.Port.counts c.room.new.desk.port.now) inv.port c.room.ensures.port;
       few = let below = c.in_ok-place.ensures.ok_few in let more = c.in_ok-room-in-Frozen.ensures.ok_few in omega (arith, below, more);

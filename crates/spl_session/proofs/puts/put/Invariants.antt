@@ -10,6 +10,7 @@ invariant-loop-place g l = record {
   ready : g.T.Turns.ready l.desk.turns;
   no_call : (history : History) → g.T.Turns.saw l.initial.desk.turns history → MadeNoCall (branch_kind g.P.Seal.Seal.TELLS) (g.T.Turns.means l.initial.desk.turns) history (g.T.Turns.means l.desk.turns) (g.T.Turns.saw l.desk.turns);
   law : l.desk.law.now ≡ l.initial.desk.law.now;
+  device : l.desk.port.ghost_name ≡ l.initial.desk.port.ghost_name;
   pager : l.desk.pager.now ≡ l.initial.desk.pager.now;
   port : NeverFell (g.P.Port.counts l.initial.desk.port.now) (g.P.Port.counts l.desk.port.now);
   few : MadeFew (g.T.Turns.means l.initial.desk.turns) (g.T.Turns.means l.desk.turns) 0;

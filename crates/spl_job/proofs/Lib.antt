@@ -1,0 +1,11 @@
+pub mod Granted
+pub mod Grants
+pub mod Hangs
+pub mod Holds
+pub mod Latches
+pub mod Nothing
+pub mod Picks
+pub mod Publishes
+pub mod Installs
+pub mod Merges
+pub mod Starts

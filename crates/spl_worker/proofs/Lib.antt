@@ -1,4 +1,0 @@
-pub mod Packs
-pub mod Granted
-pub mod Hangs
-pub mod Adding
