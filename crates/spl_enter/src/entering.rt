@@ -1,0 +1,61 @@
+ghost use Rattle.std.specs.Prelude.{◌≡◌, ◌<◌, ◌^◌, if◌then◌else◌, IfErr, IfOk, OnOk};
+ghost use Rattle.spl_holds.specs.declared.grip.Grip.TheVariants as grip;
+ghost use Rattle.spl_state.specs.View.{branch_data};
+ghost use Rattle.spl_desk.specs.Calls.{HasSeen, MadeFew};
+ghost use Rattle.spl_desk.specs.Holder.{kind_of};
+ghost use Rattle.spl_desk.specs.Quiet.{IsQuiet};
+ghost use Rattle.spl_job.specs.Holding.{Holding, IsHolding, after_latch, with_grip};
+ghost use Rattle.spl_enter.specs.Turning.{HasTurnCause};
+
+use crate::check::check_turns;
+use spl_desk::{CallFault, Turns};
+use spl_job::steps::{claim, lock, unlock};
+use spl_message::Content;
+
+/// Makes the claim on the node a write. Answers `false` where somebody reads the node, and then ends the claim.
+fn raise<B: Content, T: Turns<B>>(turns: &mut T, node: u32) -> Result<bool, CallFault>
+    requires turns { (T.means turns.old).turns < 2 ^ 41 }
+    requires ready { T.ready turns.old }
+    requires seen { HasSeen (T.saw turns.old) }
+    requires holds { (holding : Holding) × IsHolding (T.means turns.old) holding × (holding.grips node ≡ grip.Claim) }
+    ensures quiet { IsQuiet (kind_of B.number (branch_data B.extents B.entries B.cuts B.table) B.TELLS)
+        (T.means turns.old) (T.saw turns.old) (T.means turns.new) (T.saw turns.new) }
+    ensures few { MadeFew (T.means turns.old) (T.means turns.new) 0 }
+    ensures ready { T.ready turns.new }
+    ensures holds { (holding : Holding) → IsHolding (T.means turns.old) holding → holding.grips node ≡ grip.Claim
+        → IfOk result (λ made. IsHolding (T.means turns.new) (with_grip holding node (if made then grip.Write else grip.Free))) }
+    ensures left { OnOk result ((T.means turns.old).turns < (T.means turns.new).turns) }
+    ensures cause { IfErr result (HasTurnCause (T.means turns.new)) }
+{
+    check_turns(turns)?;
+    if lock(turns, node) {
+        return Ok(true);
+    }
+    check_turns(turns)?;
+    unlock(turns, node);
+    Ok(false)
+}
+
+/// Takes the write on the node. Answers `false` where somebody else is in the way, and then keeps nothing of the node.
+pub fn enter<B: Content, T: Turns<B>>(turns: &mut T, node: u32) -> Result<bool, CallFault>
+    requires turns { (T.means turns.old).turns < 2 ^ 41 }
+    requires ready { T.ready turns.old }
+    requires seen { HasSeen (T.saw turns.old) }
+    requires holds { (holding : Holding) × IsHolding (T.means turns.old) holding
+        × (holding.grips node ≡ grip.Free) × (node < holding.told) }
+    ensures quiet { IsQuiet (kind_of B.number (branch_data B.extents B.entries B.cuts B.table) B.TELLS)
+        (T.means turns.old) (T.saw turns.old) (T.means turns.new) (T.saw turns.new) }
+    ensures few { MadeFew (T.means turns.old) (T.means turns.new) 0 }
+    ensures ready { T.ready turns.new }
+    ensures holds { (holding : Holding) → IsHolding (T.means turns.old) holding → holding.grips node ≡ grip.Free
+        → IfOk result (λ made. IsHolding (T.means turns.new) (after_latch holding node made grip.Write)) }
+    ensures left { OnOk result ((T.means turns.old).turns < (T.means turns.new).turns) }
+    ensures cause { IfErr result (HasTurnCause (T.means turns.new)) }
+{
+    check_turns(turns)?;
+    if claim(turns, node) {
+        raise(turns, node)
+    } else {
+        Ok(false)
+    }
+}

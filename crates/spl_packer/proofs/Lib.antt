@@ -1,0 +1,4 @@
+pub mod Fills
+pub mod Hangs
+pub mod Outcomes
+pub mod Stops
