@@ -1,0 +1,5 @@
+pub mod Begins
+pub mod Fresh
+pub mod Merges
+pub mod Places
+pub mod Stops
