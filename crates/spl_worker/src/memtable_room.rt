@@ -1,0 +1,54 @@
+//! Room for one more frozen memtable.
+ghost use Rattle.std.specs.Prelude.{◌≡◌, ◌<◌, ◌^◌, IfErr, OnErr, OnOk};
+ghost use Rattle.spl_desk.specs.Branches.{branch_kind};
+ghost use Rattle.spl_desk.specs.Calls.{HasSeen, MadeFew, MayCall, NeverFell};
+ghost use Rattle.spl_desk.specs.Quiet.{HasWorkCause, IsQuiet};
+
+use crate::{Room, make_room};
+use spl_branch::Branch;
+use spl_desk::{CallFault, Desk, Turns};
+use spl_message::MergeLaw;
+use spl_packer::{Packed, pack};
+use spl_pager::Pager;
+use spl_port::Port;
+
+/// The root of the trunk.
+const ROOT: u32 = 0;
+
+/// Packs one frozen memtable into a branch that hangs at the root, and makes room there first where that is full. It answers `Ok` too where
+/// nobody has to pack one, and where the root has children and no room.
+pub fn make_memtable_room<T: Turns<Branch<P::Seal>>, P: Port, G: Pager, L: MergeLaw>(
+    desk: &mut Desk<'_, T, P, G, L>,
+) -> Result<(), CallFault>
+    requires turns { (T.means desk.old.turns).turns < 2 ^ 41 }
+    requires ready { T.ready desk.old.turns }
+    requires seen { HasSeen (T.saw desk.old.turns) }
+    requires nothing { MayCall (T.means desk.old.turns) }
+    requires law { L.rule desk.old.law.now ≡ (T.means desk.old.turns).rule }
+    requires lawful { L.ready desk.old.law.now }
+    ensures quiet { IsQuiet (branch_kind P.Seal.TELLS) (T.means desk.old.turns) (T.saw desk.old.turns)
+        (T.means desk.new.turns) (T.saw desk.new.turns) }
+    ensures nothing { MayCall (T.means desk.new.turns) }
+    ensures ready { T.ready desk.new.turns }
+    ensures ok_few { OnOk result (MadeFew (T.means desk.old.turns) (T.means desk.new.turns) 0) }
+    ensures err_few { OnErr result (MadeFew (T.means desk.old.turns) (T.means desk.new.turns) 1) }
+    ensures law { desk.new.law.now ≡ desk.old.law.now }
+    ensures pager { desk.new.pager.now ≡ desk.old.pager.now }
+    ensures device { desk.new.port.ghost_name ≡ desk.old.port.ghost_name }
+    ensures port { NeverFell (P.counts desk.old.port.now) (P.counts desk.new.port.now) }
+    ensures cause { IfErr result (HasWorkCause (branch_kind P.Seal.TELLS) (T.means desk.old.turns)
+        (T.saw desk.old.turns) (T.means desk.new.turns) (T.saw desk.new.turns)
+        (P.counts desk.old.port.now) (P.counts desk.new.port.now)) }
+{
+    'room: loop {
+        match pack(desk)? {
+            Packed::Done | Packed::Nothing => return Ok(()),
+            Packed::NotOldest => {}
+            Packed::NeedsFlush => {
+                if make_room(desk, ROOT)? == Room::Inner {
+                    return Ok(());
+                }
+            }
+        }
+    }
+}

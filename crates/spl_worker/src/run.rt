@@ -1,0 +1,28 @@
+ghost use Rattle.std.specs.Prelude.{◌≡◌, ◌<◌, length, None};
+
+use spl_state::View;
+
+/// All bundles of a node, from the first one up to the last one.
+#[derive(Clone, Copy, Debug)]
+pub(crate) struct Run {
+    pub(crate) first: u64,
+    pub(crate) last: u64,
+}
+
+/// All bundles of the node, where it has so many or more.
+pub(crate) fn run_of(view: &View, least: usize) -> Option<Run>
+    requires { 0 < least }
+    ensures { result ≡ None → length view.now.bundles < least }
+{
+    let bundles = view.bundles.as_slice();
+    if bundles.len() < least {
+        return None;
+    }
+    let (Some(first), Some(last)) = (bundles.first(), bundles.last()) else {
+        return None;
+    };
+    Some(Run {
+        first: first.number,
+        last: last.number,
+    })
+}
