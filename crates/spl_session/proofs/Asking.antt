@@ -1,5 +1,5 @@
 -- One message for those of several tables, newest first.
-use Rattle.std.proofs.Common.{◌≡◌, ℕ, suc, ◌≤◌, true, List, [], ◌∷◌, ◌++◌, Option, Some, None, length, map, get_or, drop, take, refl, sym, ap, subst, ◌∙◌, append_assoc, take-append-drop, arith}
+use Rattle.std.proofs.Common.{◌≡◌, ℕ, suc, ◌≤◌, Bool, true, List, [], ◌∷◌, ◌++◌, Option, Some, None, length, map, get_or, drop, take, refl, sym, ap, subst, ◌∙◌, append_assoc, take-append-drop, arith}
 use Rattle.std.specs.Prelude.{option_to_list}
 use Rattle.std.proofs.Math.Seq.{drop-cons}
 use Rattle.std.proofs.lemmas.Bool.{false≢true}
@@ -13,7 +13,13 @@ use Rattle.spl_message.specs.Message.{act, act_all, combine}
 use Rattle.spl_message.specs.Rule.{Rule}
 use Rattle.spl_message.specs.Table.{Table, chain, message_at}
 use Rattle.spl_message.proofs.Messages.{act-combine}
-use Rattle.spl_session.specs.Asking.{Folds, decides}
+use Rattle.spl_port.specs.Counts.{Counts}
+use Rattle.spl_branch.specs.declared.fault.BranchFault.{BranchFault}
+use Rattle.spl_branch.specs.declared.fault.BranchFault.TheVariants as branch_fault
+use Rattle.spl_branch.specs.Branch.{Branch}
+use Rattle.spl_branch.specs.Pages.{AreTold}
+use Rattle.spl_branch.specs.Reading.{HasBranchCause}
+use Rattle.spl_session.specs.Asking.{Folds, HasReadCause, decides, of_branch}
 
 module _ (rule : Rule) (key : List ℕ) where
   -- one after the other
@@ -61,3 +67,9 @@ module _ (rule : Rule) (key : List ℕ) where
         ∙ one (act_all rule key cell older)
         ∙ sym (acts_on cell older (from xs left ++ rest))
         ∙ ap (act_all rule key cell) (sym (append_assoc older (from xs left) rest) ∙ ap (λ (ms : List Message). ms ++ rest) parts)
+
+-- what stopped the look into a branch stopped the call; where devices tell their pages, no page is damaged
+pub read_cause : (tells : Bool) (branch : Branch) (before after : Counts) (fault : BranchFault) → (tells ≡ true → AreTold branch.parts) → HasBranchCause branch before after fault → HasReadCause tells before after (of_branch fault)
+read_cause tells branch before after branch_fault.Fault told cause = cause
+read_cause tells branch before after (branch_fault.Damaged damage) told cause = ((λ is. cause.untold (told is)), (branch, cause))
+read_cause tells branch before after branch_fault.NoMemory told cause = tt

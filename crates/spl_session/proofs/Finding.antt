@@ -1,5 +1,5 @@
 -- What a lookup has found at a node, and below it.
-use Rattle.std.proofs.Common.{◌≡◌, ℕ, Bool, true, false, ◌||◌, List, ◌++◌, Option, Some, None, option_to_list, refl, sym, ap, ◌∙◌}
+use Rattle.std.proofs.Common.{◌≡◌, ℕ, ◌<◌, ◌≤◌, Bool, true, false, ◌||◌, List, ◌++◌, Option, Some, None, option_to_list, refl, sym, ap, ◌∙◌, arith}
 use Rattle.spl_message.specs.declared.message.Message.{Message}
 use Rattle.spl_message.specs.Cell.{Cell}
 use Rattle.spl_message.specs.Message.{act_all, settle}
@@ -9,10 +9,14 @@ use Rattle.spl_trunk.specs.Trunk.{node_at}
 use Rattle.spl_state.specs.declared.sight.Sight.{Sight}
 use Rattle.spl_descent.specs.Sights.{below, rest, rest_below}
 use Rattle.spl_descent.specs.Descents.{child_of}
+use Rattle.spl_port.specs.Counts.{Counts, Rose}
+use Rattle.spl_branch.specs.Reading.{OnlyReads}
+use Rattle.spl_desk.specs.declared.fault.CallFault.{CallFault}
+use Rattle.spl_desk.specs.declared.fault.CallFault.TheVariants as call_fault
 use Rattle.spl_desk.specs.Holder.{BranchKind, Holder}
-use Rattle.spl_session.specs.Asking.{Folds, decides}
+use Rattle.spl_session.specs.Asking.{Folds, HasReadCause, decides}
 use Rattle.spl_session.specs.Descending.{Arrived, Descended, IsFor, descent_of, tables_in}
-use Rattle.spl_session.specs.Looking.{is_last}
+use Rattle.spl_session.specs.Looking.{HasLookCause, is_last}
 use Rattle.spl_session.proofs.Asking.{acts_on, decided_same}
 
 -- the one message of no value comes to what it settles to
@@ -43,3 +47,18 @@ module _ {B : Type 0} (kind : BranchKind B) (key : List ℕ) where
     pub found_on : (new : Holder) (next : Sight B) → Descended kind holder new sight next → IsFor key sight.span → kind.tells ≡ true → act_all holder.rule key (rest holder.rule new.at next.node key) (option_to_list found) ≡ act_all holder.rule key (rest holder.rule holder.at sight.node key) (option_to_list newer)
     found_on new next moved for tells =
         over (rest holder.rule new.at next.node key) ∙ ap (λ (c : Cell). act_all holder.rule key c (option_to_list newer)) (sym (moved.leads tells key for))
+
+-- what stopped asking the branches stopped the lookup
+pub read_stops : (tells : Bool) (start mid after : Counts) (new : Holder) (fault : CallFault) → OnlyReads start mid → HasReadCause tells mid after fault → HasLookCause tells start after new fault
+read_stops tells start mid after new call_fault.Fault only cause = rose start.faults mid.faults after.faults only.faults cause
+  where
+    rose : (a b c : ℕ) → a ≤ b → Rose b c → Rose a c
+    rose a b c below r = omega (arith, below, r)
+read_stops tells start mid after new (call_fault.Damaged damage) only cause =
+    let before : start.reads ≤ mid.reads = only.reads in
+    let read : mid.reads < after.reads = cause.1.1.read in
+    (cause.0, (cause.1.0, record { untold = cause.1.1.untold; place = cause.1.1.place; page = cause.1.1.page; read = omega (arith, before, read) }))
+read_stops tells start mid after new call_fault.Full only cause = absurd cause
+read_stops tells start mid after new call_fault.Nodes only cause = absurd cause
+read_stops tells start mid after new (call_fault.Spent turns) only cause = absurd cause
+read_stops tells start mid after new call_fault.NoMemory only cause = tt

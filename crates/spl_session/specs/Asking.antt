@@ -30,11 +30,11 @@ of_branch branch_fault.Fault = Fault
 of_branch (branch_fault.Damaged damage) = Damaged damage
 of_branch branch_fault.NoMemory = NoMemory
 
--- the device failed in this call, or gave a damaged page of some branch, or memory ran out
-abbrev pub HasReadCause : Counts → Counts → CallFault → Type 0
-HasReadCause before after Fault = Rose before.faults after.faults
-HasReadCause before after (Damaged damage) = (branch : Branch) × IsDamage branch before after damage
-HasReadCause before after Full = ⊥
-HasReadCause before after Nodes = ⊥
-HasReadCause before after (Spent turns) = ⊥
-HasReadCause before after NoMemory = Unit {0}
+-- the device failed in this call, or does not tell its pages and gave a damaged one of some branch, or memory ran out
+abbrev pub HasReadCause : Bool → Counts → Counts → CallFault → Type 0
+HasReadCause tells before after Fault = Rose before.faults after.faults
+HasReadCause tells before after (Damaged damage) = (tells ≡ true → ⊥) × ((branch : Branch) × IsDamage branch before after damage)
+HasReadCause tells before after Full = ⊥
+HasReadCause tells before after Nodes = ⊥
+HasReadCause tells before after (Spent turns) = ⊥
+HasReadCause tells before after NoMemory = Unit {0}

@@ -1,5 +1,5 @@
 -- What a descent of a holder knows at a node.
-use Rattle.std.specs.Prelude.{◌≡◌, ◌≢◌, ℕ, ◌≤◌, ◌↔◌, IsTrue, true, false, List, map, Option, Some, None, Result, Ok, Err}
+use Rattle.std.specs.Prelude.{◌≡◌, ◌≢◌, ℕ, ◌↔◌, IsTrue, true, false, List, map, Option, Some, None, Result, Ok, Err}
 use Rattle.spl_message.specs.declared.span.Span.{Span}
 use Rattle.spl_message.specs.Message.{act_all}
 use Rattle.spl_message.specs.History.{History, cell_at}

@@ -1,5 +1,5 @@
 -- Why a lookup is stopped.
-use Rattle.std.specs.Prelude.{Bool, ◌||◌, Option}
+use Rattle.std.specs.Prelude.{◌≡◌, Bool, true, ◌||◌, Option}
 use Rattle.spl_message.specs.declared.message.Message.{Message}
 use Rattle.spl_port.specs.Counts.{Counts, Rose}
 use Rattle.spl_branch.specs.Branch.{Branch}
@@ -11,14 +11,14 @@ use Rattle.spl_desk.specs.Calls.{IsSpentAt}
 use Rattle.spl_desk.specs.Holder.{Holder}
 use Rattle.spl_session.specs.Asking.{decides}
 
--- the device failed in this call, or gave a damaged page of some branch, or the holder has made as many steps as it may, or memory ran out
-abbrev pub HasLookCause : Counts → Counts → Holder → CallFault → Type 0
-HasLookCause before after new Fault = Rose before.faults after.faults
-HasLookCause before after new (Damaged damage) = (branch : Branch) × IsDamage branch before after damage
-HasLookCause before after new Full = ⊥
-HasLookCause before after new Nodes = ⊥
-HasLookCause before after new (Spent turns) = IsSpentAt turns new
-HasLookCause before after new NoMemory = Unit {0}
+-- the device failed in this call, or does not tell its pages and gave a damaged one of some branch, or the holder has made as many steps as it may, or memory ran out
+abbrev pub HasLookCause : Bool → Counts → Counts → Holder → CallFault → Type 0
+HasLookCause tells before after new Fault = Rose before.faults after.faults
+HasLookCause tells before after new (Damaged damage) = (tells ≡ true → ⊥) × ((branch : Branch) × IsDamage branch before after damage)
+HasLookCause tells before after new Full = ⊥
+HasLookCause tells before after new Nodes = ⊥
+HasLookCause tells before after new (Spent turns) = IsSpentAt turns new
+HasLookCause tells before after new NoMemory = Unit {0}
 
 -- at a leaf, and behind what decides, nothing below the node matters
 abbrev pub is_last : {B : Type 0} → Sight B → Option Message → Bool

@@ -111,8 +111,10 @@ fn ask_branch<P: Port, G: Pager, L: MergeLaw>(
     ensures told { P.Seal.TELLS ≡ true → IfOk result (Folds (L.rule law.now) key.now
         (option_to_list (message_at (table_of branch.now) key.now) ++ option_to_list found)) }
     ensures counts { OnlyReads (P.counts port.old) (P.counts port.new) }
-    ensures cause { IfErr result (HasReadCause (P.counts port.old) (P.counts port.new)) }
+    ensures cause { IfErr result (HasReadCause P.Seal.TELLS (P.counts port.old) (P.counts port.new)) }
 {
+    // Where the seals tell their pages, so does the branch.
+    let _ = branch.leaves();
     match branch.get(port, pager, key) {
         Ok(Some(older)) => Ok(with_older(alloc, law, key.key(), older, found)?),
         Ok(None) => Ok(found),
@@ -134,7 +136,7 @@ pub(crate) fn ask_branches<P: Port, G: Pager, L: MergeLaw>(
     ensures told { P.Seal.TELLS ≡ true → IfOk result (Folds (L.rule law.now) key.now
         (chain (map table_of branches.now) key.now ++ option_to_list found)) }
     ensures counts { OnlyReads (P.counts port.old) (P.counts port.new) }
-    ensures cause { IfErr result (HasReadCause (P.counts port.old) (P.counts port.new)) }
+    ensures cause { IfErr result (HasReadCause P.Seal.TELLS (P.counts port.old) (P.counts port.new)) }
 {
     let shared = branches.as_slice();
     let mut found = found;

@@ -1,7 +1,7 @@
 //! Calls of the store over a desk, each as a loop of steps of the core.
 //!
-//! A put goes into the active memtable. Where that is full it is frozen, and where four are frozen a `Room` is asked to
-//! pack one. Between two steps of a put the holder's actor has nothing, so a put that stops leaves nothing behind, and one
+//! A put goes into the active memtable. Where that is full it is frozen, and where four are frozen one of
+//! them is packed first. Between two steps of a put the holder's actor has nothing, so a put that stops leaves nothing behind, and one
 //! that ends with an error has changed no key.
 //!
 //! A lookup is one descent. At each node it makes one message of those that the key has there, newest first, and ends
@@ -13,14 +13,13 @@ mod down;
 mod found;
 mod look;
 mod puts;
-mod room;
 mod steps;
+mod way;
 mod write;
 
 pub use found::{Found, Stopped};
 pub use look::lookup;
 pub use puts::{delete, insert, put, update};
-pub use room::Room;
 pub use write::Write;
 
 #[cfg(test)]

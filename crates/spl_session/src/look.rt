@@ -57,7 +57,7 @@ fn find<T: Turns<Branch<P::Seal>>, P: Port, G: Pager, L: MergeLaw>(
     ensures walk { (history : History) → T.saw desk.old.turns history → MadeNoCall (branch_kind P.Seal.TELLS)
         (T.means desk.old.turns) history (T.means desk.new.turns) (T.saw desk.new.turns) }
     ensures counts { OnlyReads (P.counts desk.old.port.now) (P.counts desk.new.port.now) }
-    ensures cause { IfErr result (HasLookCause (P.counts desk.old.port.now) (P.counts desk.new.port.now)
+    ensures cause { IfErr result (HasLookCause P.Seal.TELLS (P.counts desk.old.port.now) (P.counts desk.new.port.now)
         (T.means desk.new.turns)) }
 {
     let mut sight = sight;
@@ -106,7 +106,7 @@ fn value_at<T: Turns<Branch<P::Seal>>, P: Port, G: Pager, L: MergeLaw>(
     ensures walk { (history : History) → T.saw desk.old.turns history → MadeNoCall (branch_kind P.Seal.TELLS)
         (T.means desk.old.turns) history (T.means desk.new.turns) (T.saw desk.new.turns) }
     ensures counts { OnlyReads (P.counts desk.old.port.now) (P.counts desk.new.port.now) }
-    ensures cause { IfErr result (HasLookCause (P.counts desk.old.port.now) (P.counts desk.new.port.now)
+    ensures cause { IfErr result (HasLookCause P.Seal.TELLS (P.counts desk.old.port.now) (P.counts desk.new.port.now)
         (T.means desk.new.turns)) }
 {
     let found = ask_slices(desk.alloc, desk.law, key, &sight.tables)?;
@@ -141,7 +141,7 @@ pub fn lookup<T: Turns<Branch<P::Seal>>, P: Port, G: Pager, L: MergeLaw>(
         (λ place. MadeCall (branch_kind P.Seal.TELLS) (T.means desk.old.turns) history (T.means desk.new.turns)
         (T.saw desk.new.turns) (call.Piece (span_of_key key.now)) place)) }
     ensures port { NeverFell (P.counts desk.old.port.now) (P.counts desk.new.port.now) }
-    ensures cause { IfErr result (λ stopped. HasLookCause (P.counts desk.old.port.now) (P.counts desk.new.port.now)
+    ensures cause { IfErr result (λ stopped. HasLookCause P.Seal.TELLS (P.counts desk.old.port.now) (P.counts desk.new.port.now)
         (T.means desk.new.turns) stopped.fault) }
 {
     let sight = match begin(&mut desk.turns, key) {

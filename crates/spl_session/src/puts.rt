@@ -7,8 +7,8 @@ ghost use Rattle.spl_desk.specs.Calls.{HasCalled, MadeCall, MadeFew, MadeNoCall,
 ghost use Rattle.spl_desk.specs.Causes.{HasCallCause};
 ghost use Rattle.spl_session.specs.Writes.{message_of};
 
-use crate::Room;
 use crate::steps::{Progress, attempt_or_give_up};
+use crate::way::make_way;
 use crate::write::Write;
 use spl_branch::Branch;
 use spl_desk::{CallFault, Desk, Turns};
@@ -18,10 +18,9 @@ use spl_port::Port;
 
 /// Puts the message for the key, and answers its place in the history of all calls. A put that fails changes no key.
 ///
-/// The room is called only where four memtables are frozen, and its faults are handed on.
-pub fn put<T: Turns<Branch<P::Seal>>, P: Port, G: Pager, L: MergeLaw, M: Room>(
+/// Room for one more frozen memtable is made only where four are frozen.
+pub fn put<T: Turns<Branch<P::Seal>>, P: Port, G: Pager, L: MergeLaw>(
     desk: &mut Desk<'_, T, P, G, L>,
-    room: &M,
     key: &Key,
     write: Write<'_>,
 ) -> Result<u64, CallFault>
@@ -51,15 +50,14 @@ pub fn put<T: Turns<Branch<P::Seal>>, P: Port, G: Pager, L: MergeLaw, M: Room>(
         match attempt_or_give_up(&mut desk.turns, key, &write)? {
             Progress::Placed { place } => return Ok(place),
             Progress::Again => {}
-            Progress::Frozen => room.room(desk)?,
+            Progress::Frozen => make_way(desk)?,
         }
     }
 }
 
 /// Puts a value for the key.
-pub fn insert<T: Turns<Branch<P::Seal>>, P: Port, G: Pager, L: MergeLaw, M: Room>(
+pub fn insert<T: Turns<Branch<P::Seal>>, P: Port, G: Pager, L: MergeLaw>(
     desk: &mut Desk<'_, T, P, G, L>,
-    room: &M,
     key: &Key,
     value: &Value,
 ) -> Result<u64, CallFault>
@@ -85,13 +83,12 @@ pub fn insert<T: Turns<Branch<P::Seal>>, P: Port, G: Pager, L: MergeLaw, M: Room
         (T.means desk.old.turns) history (T.means desk.new.turns) (T.saw desk.new.turns)
         (P.counts desk.old.port.now) (P.counts desk.new.port.now)) }
 {
-    put(desk, room, key, Write::Insert(value))
+    put(desk, key, Write::Insert(value))
 }
 
 /// Takes the key's value away.
-pub fn delete<T: Turns<Branch<P::Seal>>, P: Port, G: Pager, L: MergeLaw, M: Room>(
+pub fn delete<T: Turns<Branch<P::Seal>>, P: Port, G: Pager, L: MergeLaw>(
     desk: &mut Desk<'_, T, P, G, L>,
-    room: &M,
     key: &Key,
 ) -> Result<u64, CallFault>
     requires turns { (T.means desk.old.turns).turns < 2 ^ 41 }
@@ -116,13 +113,12 @@ pub fn delete<T: Turns<Branch<P::Seal>>, P: Port, G: Pager, L: MergeLaw, M: Room
         (T.means desk.old.turns) history (T.means desk.new.turns) (T.saw desk.new.turns)
         (P.counts desk.old.port.now) (P.counts desk.new.port.now)) }
 {
-    put(desk, room, key, Write::Delete)
+    put(desk, key, Write::Delete)
 }
 
 /// Merges the operand into the key's value.
-pub fn update<T: Turns<Branch<P::Seal>>, P: Port, G: Pager, L: MergeLaw, M: Room>(
+pub fn update<T: Turns<Branch<P::Seal>>, P: Port, G: Pager, L: MergeLaw>(
     desk: &mut Desk<'_, T, P, G, L>,
-    room: &M,
     key: &Key,
     operand: &Value,
 ) -> Result<u64, CallFault>
@@ -148,5 +144,5 @@ pub fn update<T: Turns<Branch<P::Seal>>, P: Port, G: Pager, L: MergeLaw, M: Room
         (T.means desk.old.turns) history (T.means desk.new.turns) (T.saw desk.new.turns)
         (P.counts desk.old.port.now) (P.counts desk.new.port.now)) }
 {
-    put(desk, room, key, Write::Update(operand))
+    put(desk, key, Write::Update(operand))
 }

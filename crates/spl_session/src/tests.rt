@@ -1,24 +1,12 @@
-use crate::{Room, delete, insert, lookup, update};
+use crate::{delete, insert, lookup, update};
 use spl_alone::Alone;
 use spl_branch::Branch;
 use spl_core::Core;
-use spl_desk::{CallFault, Desk, Turns};
-use spl_message::{Key, MergeLaw, Newest, Value};
-use spl_pager::{Direct, Pager};
-use spl_port::{MemPort, Port};
+use spl_desk::Desk;
+use spl_message::{Key, Newest, Value};
+use spl_pager::Direct;
+use spl_port::MemPort;
 use std::test::Fail;
-
-/// A room that does nothing.
-struct Idle;
-
-impl Room for Idle {
-    fn room<T: Turns<Branch<P::Seal>>, P: Port, G: Pager, L: MergeLaw>(
-        &self,
-        _desk: &mut Desk<'_, T, P, G, L>,
-    ) -> Result<(), CallFault> {
-        Ok(())
-    }
-}
 
 #[test]
 fn puts_have_places_in_their_order(rt: HostRuntime) -> Result<(), Fail> {
@@ -34,9 +22,9 @@ fn puts_have_places_in_their_order(rt: HostRuntime) -> Result<(), Fail> {
     };
     let key = Key::read(b"a")?;
     let value = Value::read(alloc, b"1")?;
-    assert_eq!(rt; insert(&mut desk, &Idle, &key, &value)?, 0);
-    assert_eq!(rt; update(&mut desk, &Idle, &key, &value)?, 1);
-    assert_eq!(rt; delete(&mut desk, &Idle, &key)?, 2);
+    assert_eq!(rt; insert(&mut desk, &key, &value)?, 0);
+    assert_eq!(rt; update(&mut desk, &key, &value)?, 1);
+    assert_eq!(rt; delete(&mut desk, &key)?, 2);
     Ok(())
 }
 
@@ -57,7 +45,7 @@ fn a_key_is_found_once_it_was_inserted(rt: HostRuntime) -> Result<(), Fail> {
     let absent = lookup(&mut desk, &key)?;
     assert_eq!(rt; absent.place, 0);
     assert!(rt; absent.value.is_none());
-    insert(&mut desk, &Idle, &key, &value)?;
+    insert(&mut desk, &key, &value)?;
     let found = lookup(&mut desk, &key)?;
     assert_eq!(rt; found.place, 2);
     assert!(rt; found.value == Some(value));

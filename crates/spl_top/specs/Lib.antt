@@ -1,8 +1,9 @@
-pub mod Cells
+pub mod Faults
 pub mod Legal
 pub mod Run
 pub mod Outcome
 pub mod ReportText
 pub mod Status
-pub mod Store
+pub mod Solo
 pub mod Top
+pub mod Turns

@@ -1,5 +1,5 @@
 -- What the program has to tell when it ends, and why.
-use Rattle.std.specs.Prelude.{◌≡◌, ℕ, ◌+◌, ◌≤◌, ◌⊎◌, length, List, [], ◌∷◌, ◌++◌, map, codes, decimal, Option, Ok, Err, IfSome, String, string_bytes}
+use Rattle.std.specs.Prelude.{◌≡◌, ℕ, Bool, ◌+◌, ◌≤◌, ◌⊎◌, length, List, [], ◌∷◌, ◌++◌, map, codes, decimal, Option, Ok, Err, IfSome, String, string_bytes}
 use Rattle.spl_port.specs.Counts.{raised_count}
 use Rattle.spl_port.specs.Streams.{Input}
 use Rattle.spl_message.specs.Rule.{Rule}
@@ -52,13 +52,13 @@ text_of no_memory = codes "memory\n"
 text_of (ran script rows status) = report_text rows
 
 -- an outcome of an input that was read: a line is faulty, or the rows are those of a run of the script that the bytes spell
-abbrev pub EndsByInput : Rule → ℕ → List ℕ → Outcome → Type 0
-EndsByInput rule callers input bad_words = ⊥
-EndsByInput rule callers input bad_source = ⊥
-EndsByInput rule callers input (bad_line faulty) = script_text callers input ≡ Err faulty
-EndsByInput rule callers input no_memory = ⊥
-EndsByInput rule callers input (ran script rows status) =
-    (length input ≤ 16777216) × (script_text callers input ≡ Ok script) × IsRunOf rule script rows status
+abbrev pub EndsByInput : Rule → Bool → ℕ → List ℕ → Outcome → Type 0
+EndsByInput rule tells callers input bad_words = ⊥
+EndsByInput rule tells callers input bad_source = ⊥
+EndsByInput rule tells callers input (bad_line faulty) = script_text callers input ≡ Err faulty
+EndsByInput rule tells callers input no_memory = ⊥
+EndsByInput rule tells callers input (ran script rows status) =
+    (length input ≤ 16777216) × (script_text callers input ≡ Ok script) × IsRunOf rule tells script rows status
 
 -- the source was read to its end, or 16,777,217 bytes of it were read
 abbrev pub IsRead : Option (List ℕ) → Option (List ℕ) → Type 0
@@ -66,21 +66,21 @@ IsRead left rest = IfSome left (λ input. IfSome rest (λ more. (more ≡ []) �
 
 -- the cause of an outcome, in the words and in the source before and after: refused words leave the source as it was, a bad
 -- source failed once, and in every other case no read failed; where rows are told, the source was read to its end
-abbrev pub EndsBy : Rule → ℕ → {A : Type 0} → List (String A) → Input → Input → Outcome → Type 0
-EndsBy rule callers words before after bad_words = ¬ (IsRun words) × (after ≡ before)
-EndsBy rule callers words before after bad_source = IsRun words × (after.faults ≡ raised_count before.faults)
-EndsBy rule callers words before after no_memory = IsRun words × (after.faults ≡ before.faults)
-EndsBy rule callers words before after (bad_line faulty) =
+abbrev pub EndsBy : Rule → Bool → ℕ → {A : Type 0} → List (String A) → Input → Input → Outcome → Type 0
+EndsBy rule tells callers words before after bad_words = ¬ (IsRun words) × (after ≡ before)
+EndsBy rule tells callers words before after bad_source = IsRun words × (after.faults ≡ raised_count before.faults)
+EndsBy rule tells callers words before after no_memory = IsRun words × (after.faults ≡ before.faults)
+EndsBy rule tells callers words before after (bad_line faulty) =
     IsRun words × (after.faults ≡ before.faults)
     × IfSome before.left (λ input. script_text callers input ≡ Err faulty)
     × IsRead before.left after.left
-EndsBy rule callers words before after (ran script rows status) =
+EndsBy rule tells callers words before after (ran script rows status) =
     IsRun words × (after.faults ≡ before.faults)
     × IfSome before.left (λ input. (length input ≤ 16777216) × (script_text callers input ≡ Ok script))
     × IfSome after.left (λ rest. rest ≡ [])
-    × IsRunOf rule script rows status
+    × IsRunOf rule tells script rows status
 
 -- the status and the text are those of an outcome of this input
-abbrev pub EndsWithInput : Rule → ℕ → ℕ → List ℕ → List ℕ → Type 0
-EndsWithInput rule callers status text input =
-    (outcome : Outcome) × EndsByInput rule callers input outcome × (status ≡ status_of outcome) × (text ≡ text_of outcome)
+abbrev pub EndsWithInput : Rule → Bool → ℕ → ℕ → List ℕ → List ℕ → Type 0
+EndsWithInput rule tells callers status text input =
+    (outcome : Outcome) × EndsByInput rule tells callers input outcome × (status ≡ status_of outcome) × (text ≡ text_of outcome)

@@ -1,15 +1,17 @@
 -- How a run ends: which caller ended early, and why.
-use Rattle.std.specs.Prelude.{◌≡◌, ℕ, ◌<◌, ◌⊎◌, List, [], ◌∷◌, All, Option, Some, None, IfSome}
+use Rattle.std.specs.Prelude.{◌≡◌, ℕ, ◌<◌, ◌⊎◌, Bool, true, List, [], ◌∷◌, All, Option, Some, None, IfSome}
 use Rattle.std.specs.Option.{option_or}
 use Rattle.spl_message.specs.declared.answer.Answer.{Answer}
 use Rattle.spl_message.specs.declared.answer.Answer.TheVariants.{Done, Missing, Value, Pairs, Stopped}
 use Rattle.spl_message.specs.declared.answer.Cause.{Cause}
 use Rattle.spl_message.specs.declared.answer.Cause.TheVariants.{Fault, Damaged, Full, Nodes, Spent, Memory}
+use Rattle.spl_message.specs.declared.call.Call.{Call}
+use Rattle.spl_message.specs.declared.call.Call.TheVariants.{Put, Look, Piece}
 use Rattle.spl_message.specs.Rule.{Rule}
 use Rattle.spl_script.specs.declared.script.ScriptLine.{ScriptLine}
 use Rattle.spl_script.specs.Deed.{lines_of}
 use Rattle.spl_top.specs.declared.report.Row.{Row}
-use Rattle.spl_top.specs.Legal.{rows_of, Expand, EndEarly, IsLegal, IsComplete}
+use Rattle.spl_top.specs.Legal.{rows_of, Expand, EndEarly, IsLegal, IsOneHistory, IsComplete}
 
 -- why an answer was stopped, where it was
 abbrev pub cause_of : Answer → Option Cause
@@ -45,20 +47,25 @@ HasStatus rows script status =
     ((status ≡ 0) × IsComplete rows script)
     ⊎ ((caller : ℕ) × IsFirstToEnd caller rows script × (status ≡ status_of_cause (cause_in (rows_of caller rows))))
 
--- which causes a stopped call may have: out of memory, which is free. A call that runs out of memory has no place
-abbrev pub MayStop : Option ℕ → Cause → Type 0
-MayStop place Memory = place ≡ None
-MayStop place Fault = ⊥
-MayStop place Damaged = ⊥
-MayStop place Full = ⊥
-MayStop place Nodes = ⊥
-MayStop place Spent = ⊥
+-- which causes a stopped call may have: a lookup asks for no extent and no node, and a device that tells its pages gives no damaged one
+abbrev pub MayStop : Bool → Call → Cause → Type 0
+MayStop tells call Fault = Unit {0}
+MayStop tells call Damaged = tells ≡ true → ⊥
+MayStop tells (Put key message) Full = Unit {0}
+MayStop tells (Look key) Full = ⊥
+MayStop tells (Piece span) Full = ⊥
+MayStop tells (Put key message) Nodes = Unit {0}
+MayStop tells (Look key) Nodes = ⊥
+MayStop tells (Piece span) Nodes = ⊥
+MayStop tells call Spent = Unit {0}
+MayStop tells call Memory = Unit {0}
 
-abbrev pub HasCause : Row → Type 0
-HasCause row = IfSome (cause_of row.answer) (MayStop row.place)
+abbrev pub MayStand : Bool → Row → Type 0
+MayStand tells row = IfSome (cause_of row.answer) (MayStop tells row.call)
 
--- the rows are those of a run of the script, which ends with this status
-pub record IsRunOf (rule : Rule) (script : List ScriptLine) (rows : List Row) (status : ℕ) : Type 0 where
-  pub legal : IsLegal rule rows script
+-- the rows are those of a run of the script, which ends with this status; where devices tell their pages each call is answered rightly
+pub record IsRunOf (rule : Rule) (tells : Bool) (script : List ScriptLine) (rows : List Row) (status : ℕ) : Type 0 where
+  pub history : IsOneHistory rows script
+  pub legal : tells ≡ true → IsLegal rule rows script
   pub ended : HasStatus rows script status
-  pub causes : All HasCause rows
+  pub causes : All (MayStand tells) rows

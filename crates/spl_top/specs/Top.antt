@@ -1,5 +1,5 @@
 -- What the program leaves in its sink, and with which status it ends.
-use Rattle.std.specs.Prelude.{◌≡◌, ℕ, ◌⊎◌, List, Option, Ok, codes, String}
+use Rattle.std.specs.Prelude.{◌≡◌, ℕ, Bool, ◌⊎◌, List, Option, Ok, codes, String}
 use Rattle.spl_port.specs.Bytes.{Takes, TakesPart}
 use Rattle.spl_port.specs.Counts.{raised_count}
 use Rattle.spl_port.specs.Streams.{Input, Output}
@@ -23,21 +23,21 @@ abbrev pub Tells : Output → Output → ℕ → List ℕ → ℕ → Type 0
 Tells before after status text result = TellsAll before after status text result ⊎ TellsPart before after text result
 
 -- there was an outcome, which has its cause, and it was told
-abbrev pub Ends : Rule → ℕ → {A : Type 0} → List (String A) → Input → Input → Output → Output → ℕ → Type 0
-Ends rule callers words source source' sink sink' result =
-    (outcome : Outcome) × EndsBy rule callers words source source' outcome × Tells sink sink' (status_of outcome) (text_of outcome) result
+abbrev pub Ends : Rule → Bool → ℕ → {A : Type 0} → List (String A) → Input → Input → Output → Output → ℕ → Type 0
+Ends rule tells callers words source source' sink sink' result =
+    (outcome : Outcome) × EndsBy rule tells callers words source source' outcome × Tells sink sink' (status_of outcome) (text_of outcome) result
 
 -- the sink holds the report of a run of the script behind what it held, whose status is this one; or memory ran out before
 -- there was one, and it holds that
-abbrev pub Reports : Rule → List ScriptLine → Option (List ℕ) → Option (List ℕ) → ℕ → Type 0
-Reports rule script held now result =
-    ((rows : List Row) × IsRunOf rule script rows result × Takes held now (report_text rows))
+abbrev pub Reports : Rule → Bool → List ScriptLine → Option (List ℕ) → Option (List ℕ) → ℕ → Type 0
+Reports rule tells script held now result =
+    ((rows : List Row) × IsRunOf rule tells script rows result × Takes held now (report_text rows))
     ⊎ ((result ≡ 7) × Takes held now (codes "memory\n"))
 
 -- the whole script that the input spells is answered, and its report stands in the sink
-abbrev pub IsDone : Rule → ℕ → Option (List ℕ) → Option (List ℕ) → List ℕ → Type 0
-IsDone rule callers held now input =
-    (script : List ScriptLine) × (script_text callers input ≡ Ok script) × (rows : List Row) × IsRunOf rule script rows 0 × Takes held now (report_text rows)
+abbrev pub IsDone : Rule → Bool → ℕ → Option (List ℕ) → Option (List ℕ) → List ℕ → Type 0
+IsDone rule tells callers held now input =
+    (script : List ScriptLine) × (script_text callers input ≡ Ok script) × (rows : List Row) × IsRunOf rule tells script rows 0 × Takes held now (report_text rows)
 
 -- the faulty line is told, or that memory ran out
 abbrev pub RefusesLine : Output → Output → Faulty → ℕ → Type 0

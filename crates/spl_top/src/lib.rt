@@ -4,12 +4,14 @@
 //! are what the shipped program promises.
 #![tactic(auto)]
 
+mod calls;
 mod ending;
+mod one_caller;
 mod report;
 mod run;
-mod store;
 mod top;
 
+pub use one_caller::{Ended, solo};
 pub use report::{Row, one_report, write_report};
 pub use top::splinter;
 

@@ -1,86 +1,138 @@
-//! The run of a script by one caller.
-ghost use Rattle.std.specs.Prelude.{◌≡◌, ◌<◌, ◌^◌, length, vec_len, All, OnOk, OnErr};
-ghost use Rattle.spl_message.specs.Rule.{newest};
+//! The run of a script by one caller over a desk.
+ghost use Rattle.std.specs.Prelude.{◌≡◌, ◌<◌, ◌≤◌, ◌^◌, true, [], All, Some};
+ghost use Rattle.spl_message.specs.History.{History};
+ghost use Rattle.spl_desk.specs.Branches.{branch_kind};
+ghost use Rattle.spl_desk.specs.Calls.{HasCalled, HasSeen, MadeFew, MayCall, NeverFell};
+ghost use Rattle.spl_desk.specs.Walk.{Went};
 ghost use Rattle.spl_script.specs.Deed.{IsDeed};
-ghost use Rattle.spl_top.specs.Cells.{cells_of};
-ghost use Rattle.spl_top.specs.Run.{Logs, Stops};
-ghost use Rattle.spl_top.specs.Status.{IsRunOf};
-ghost use Rattle.spl_top.specs.Store.{SameCells};
+ghost use Rattle.spl_top.specs.Run.{Logs};
+ghost use Rattle.spl_top.specs.Status.{IsRunOf, cause_of, status_of_cause};
+ghost use Rattle.spl_top.specs.Turns.{EndsFor, counted};
 
+use crate::calls::make_call;
 use crate::report::Row;
-use crate::store::Store;
-use spl_message::{Answer, Cause, NoMemory};
+use spl_branch::Branch;
+use spl_desk::{Desk, Turns};
+use spl_message::{Answer, Cause, MergeLaw};
+use spl_pager::Pager;
+use spl_port::Port;
 use spl_script::{Deed, ScriptLine, Scripts};
-use std::alloc::Global;
-
-/// The status of a run that answered its whole script.
-const DONE: u8 = 0;
-
-/// The status of a run that ran out of memory.
-const OUT_OF_MEMORY: u8 = 7;
 
 /// The rows of a run, and its status.
 #[derive(Drop)]
-pub struct Ran {
-    pub rows: Vec<Row>,
-    pub status: u8,
+pub(crate) struct Ran {
+    pub(crate) rows: Vec<Row>,
+    pub(crate) status: u8,
 }
 
-/// Runs the script of caller 0 over a store of its own.
-pub fn run(alloc: Global, script: &Scripts) -> Ran
-    requires { All (λ line. line.caller < 1) script.now }
-    ensures { IsRunOf newest script.now result.rows.items result.status }
+/// Why an answer was stopped, where it was.
+fn cause_of(answer: &Answer) -> Option<Cause>
+    ensures { result ≡ cause_of answer.now }
 {
-    let mut store = Store::new(alloc);
-    let mut rows = Vec::new(alloc);
+    match answer {
+        Answer::Stopped(cause) => Some(*cause),
+        Answer::Done | Answer::Missing | Answer::Value(_) | Answer::Pairs { .. } => None,
+    }
+}
+
+/// The status of a run that was stopped.
+fn status_of(cause: Cause) -> u8
+    ensures { result ≡ status_of_cause (Some cause) }
+{
+    match cause {
+        Cause::Fault => 5,
+        Cause::Full => 6,
+        Cause::Memory => 7,
+        Cause::Damaged => 8,
+        Cause::Nodes => 9,
+        Cause::Spent => 10,
+    }
+}
+
+/// Makes the call of a line, at the next place, and puts its row behind the others. The row has its room before the call
+/// is made, so no call that was made goes unreported.
+fn run_line<T: Turns<Branch<P::Seal>>, P: Port, G: Pager, L: MergeLaw>(
+    desk: &mut Desk<'_, T, P, G, L>,
+    rows: &mut Vec<Row>,
+    line: &ScriptLine,
+) -> Result<(), Cause>
+    requires known { IsDeed line.now.deed }
+    requires turns { (T.means desk.old.turns).turns < 2 ^ 41 }
+    requires ready { T.ready desk.old.turns }
+    requires nothing { MayCall (T.means desk.old.turns) }
+    requires seen { HasSeen (T.saw desk.old.turns) }
+    requires law { L.rule desk.old.law.now ≡ (T.means desk.old.turns).rule }
+    requires lawful { L.ready desk.old.law.now }
+    requires alone { (T.means desk.old.turns).alone ≡ true }
+    ensures called { HasCalled (T.means desk.old.turns) (T.means desk.new.turns) }
+    ensures few { MadeFew (T.means desk.old.turns) (T.means desk.new.turns) 1 }
+    ensures ready { T.ready desk.new.turns }
+    ensures law { desk.new.law.now ≡ desk.old.law.now }
+    ensures device { desk.new.port.ghost_name ≡ desk.old.port.ghost_name }
+    ensures pager { desk.new.pager.now ≡ desk.old.pager.now }
+    ensures port { NeverFell (P.counts desk.old.port.now) (P.counts desk.new.port.now) }
+    ensures logged { (history : History) → T.saw desk.old.turns history → Went (branch_kind P.Seal.TELLS)
+        (T.means desk.old.turns) history (T.means desk.new.turns) (T.saw desk.new.turns)
+        (Logs P.Seal.TELLS (T.means desk.old.turns) history (P.counts desk.old.port.now) (P.counts desk.new.port.now)
+        (T.means desk.new.turns).turns rows.old.items rows.new.items line.now result) }
+{
+    if rows.reserve(1).is_err() {
+        return Err(Cause::Memory);
+    }
+    let Deed::One(call) = &line.deed;
+    let Ok(copy) = call.copy() else {
+        return Err(Cause::Memory);
+    };
+    let made = make_call(desk, call);
+    let cause = cause_of(&made.answer);
+    let row = Row {
+        place: made.place,
+        caller: line.caller,
+        call: copy,
+        answer: made.answer,
+    };
+    rows.push(row).unwrap();
+    match cause {
+        None => Ok(()),
+        Some(cause) => Err(cause),
+    }
+}
+
+/// Runs the script of caller 0, line by line, until its end or until a call is stopped.
+pub(crate) fn run<T: Turns<Branch<P::Seal>>, P: Port, G: Pager, L: MergeLaw>(
+    desk: &mut Desk<'_, T, P, G, L>,
+    script: &Scripts,
+) -> Ran
+    requires callers { All (λ line. line.caller < 1) script.now }
+    requires turns { (T.means desk.old.turns).turns ≤ 2 ^ 40 }
+    requires ready { T.ready desk.old.turns }
+    requires nothing { MayCall (T.means desk.old.turns) }
+    requires fresh { T.saw desk.old.turns [] }
+    requires law { L.rule desk.old.law.now ≡ (T.means desk.old.turns).rule }
+    requires lawful { L.ready desk.old.law.now }
+    requires alone { (T.means desk.old.turns).alone ≡ true }
+    requires caller { (T.means desk.old.turns).actor ≡ 0 }
+    ensures called { HasCalled (T.means desk.old.turns) (T.means desk.new.turns) }
+    ensures device { desk.new.port.ghost_name ≡ desk.old.port.ghost_name }
+    ensures port { NeverFell (P.counts desk.old.port.now) (P.counts desk.new.port.now) }
+    ensures rows { IsRunOf (T.means desk.old.turns).rule P.Seal.TELLS script.now result.rows.items result.status }
+    ensures walk { Went (branch_kind P.Seal.TELLS) (T.means desk.old.turns) [] (T.means desk.new.turns)
+        (T.saw desk.new.turns) (λ turns seen. (seen ≡ counted result.rows.items)
+        × EndsFor P.Seal.TELLS (P.counts desk.old.port.now) (P.counts desk.new.port.now)
+        (T.means desk.new.turns).turns turns result.rows.items result.status) }
+{
+    let mut rows = Vec::new(desk.alloc);
     let lines = script.lines();
     for line in lines {
-        match make_line(&mut store, &mut rows, line) {
+        match run_line(desk, &mut rows, line) {
             Ok(()) => (),
-            Err(NoMemory) => {
+            Err(cause) => {
                 return Ran {
                     rows,
-                    status: OUT_OF_MEMORY,
+                    status: status_of(cause),
                 };
             }
         }
     }
-    Ran { rows, status: DONE }
-}
-
-/// Makes the call of a line, at the next place. The row has its room before the call is made, so no call that was made goes
-/// unreported.
-fn make_line(store: &mut Store, rows: &mut Vec<Row>, line: &ScriptLine) -> Result<(), NoMemory>
-    requires { IsDeed line.now.deed }
-    ensures ok { OnOk result (Logs newest rows.old.items rows.new.items (cells_of store.old) (cells_of store.new) line.now) }
-    ensures err { OnErr result (Stops rows.old.items rows.new.items line.now) }
-    ensures err_cells { OnErr result (SameCells (cells_of store.old) (cells_of store.new)) }
-{
-    rows.reserve(1)?;
-    let Deed::One(call) = &line.deed;
-    let copy = call.copy()?;
-    let caller = line.caller;
-    match store.call(call) {
-        Ok(answer) => {
-            let place = Some(rows.len() as u64);
-            let row = Row {
-                place,
-                caller,
-                call: copy,
-                answer,
-            };
-            rows.push(row).unwrap();
-            Ok(())
-        }
-        Err(NoMemory) => {
-            let row = Row {
-                place: None,
-                caller,
-                call: copy,
-                answer: Answer::Stopped(Cause::Memory),
-            };
-            rows.push(row).unwrap();
-            Err(NoMemory)
-        }
-    }
+    Ran { rows, status: 0 }
 }

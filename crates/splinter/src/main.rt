@@ -3,17 +3,17 @@
 //! `main` is the trusted edge: no clause can say what standard input gives, nor what standard output takes.
 #![tactic(auto)]
 
-ghost use Rattle.std.specs.Prelude.{◌⊎◌, codes};
+ghost use Rattle.std.specs.Prelude.{◌≡◌, ◌⊎◌, true, codes, length};
 ghost use Rattle.std.specs.Process.{exit_status};
 ghost use Rattle.spl_message.specs.Rule.{newest};
 ghost use Rattle.spl_top.specs.Top.{Ends, Tells};
 
-use spl_port::{Failed, Sink, Source, StdSink, StdSource, write_whole};
+use spl_port::{Failed, MemPort, Sink, Source, StdSink, StdSource, write_whole};
 use spl_top::splinter;
 use std::alloc::Global;
 use std::process::ExitCode;
 use std::rt::Env;
-use std::{env, io};
+use std::{array, env, io};
 
 /// The words that the program was given, without its own name.
 fn words<R: Env + AllocGlobal>(rt: &R) -> io::Result<Vec<String>> {
@@ -43,19 +43,23 @@ fn refuse<O: Sink>(fault: io::Error, out: &mut O) -> u8
 fn ended<I: Source, O: Sink>(
     alloc: Global,
     words: &[String],
+    ports: &mut [MemPort],
     input: &mut I,
     out: &mut O,
 ) -> ExitCode
-    ensures { Ends newest 1 words.now (I.means input.old) (I.means input.new) (O.means out.old) (O.means out.new) (exit_status result) }
+    requires { length ports.old ≡ 16 }
+    ensures { Ends newest true 1 words.now (I.means input.old) (I.means input.new) (O.means out.old) (O.means out.new) (exit_status result) }
 {
-    ExitCode::from(splinter(alloc, words, input, out))
+    ExitCode::from(splinter(alloc, words, ports, input, out))
 }
 
 fn main(rt: HostRuntime) -> ExitCode {
+    let alloc = rt.alloc();
+    let mut ports: [MemPort; 16] = array::from_fn(|_| MemPort::new(alloc));
     let mut input = StdSource::new(rt.reader());
     let mut out = StdSink::new(io::writer(&rt));
     match words(&rt) {
-        Ok(words) => ended(rt.alloc(), words.as_slice(), &mut input, &mut out),
+        Ok(words) => ended(alloc, words.as_slice(), &mut ports, &mut input, &mut out),
         Err(fault) => ExitCode::from(refuse(fault, &mut out)),
     }
 }

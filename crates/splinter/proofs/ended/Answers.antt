@@ -1,9 +1,9 @@
-use Rattle.std.proofs.Common.{ℕ, sym, subst}
+use Rattle.std.proofs.Common.{ℕ, true, sym, subst}
 use Rattle.spl_message.specs.Rule.{newest}
 use Rattle.spl_top.specs.Top.{Ends}
 use Rattle.splinter.proofs.ended.Goals as goal
 
 pub returns : goal.returns
 returns g c =
-    subst (λ (status : ℕ). Ends newest 1 c.args.words.now (g.I.Source.means c.args.input.now) (g.I.Source.means c.splinter.new.input) (g.O.Sink.means c.args.out.now) (g.O.Sink.means c.splinter.new.out) status)
+    subst (λ (status : ℕ). Ends newest true 1 c.args.words.now (g.I.Source.means c.args.input.now) (g.I.Source.means c.splinter.new.input) (g.O.Sink.means c.args.out.now) (g.O.Sink.means c.splinter.new.out) status)
     (sym c.from.ensures) c.splinter.ensures.told

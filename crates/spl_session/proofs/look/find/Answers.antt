@@ -7,7 +7,9 @@ use Rattle.spl_descent.specs.Sights.{rest}
 use Rattle.spl_desk.specs.Branches.{branch_kind}
 use Rattle.spl_desk.proofs.Walks.{none_then_none}
 use Rattle.spl_session.specs.Asking.{Folds}
-use Rattle.spl_session.proofs.Finding.{found_last, found_on}
+use Rattle.spl_session.specs.Looking.{HasLookCause}
+use Rattle.spl_session.proofs.Stays.{if_err_same}
+use Rattle.spl_session.proofs.Finding.{found_last, found_on, read_stops}
 use Rattle.spl_session.proofs.Walking.{alike, same_then}
 use Rattle.spl_session.proofs.look.find.Given.{Over}
 use Rattle.spl_session.proofs.look.find.Goals as goal
@@ -71,3 +73,11 @@ down-preserved g c =
       walk = λ history saw. none_then_none kind old history mid new (g.T.Turns.saw c.down.desk.turns) (g.T.Turns.saw c.descend.new.turns) (alike c.down.invariant.same) (c.down.invariant.walk history saw) c.in_ok-sight.ensures.walk;
       counts = record { faults = omega (arith, seen.faults, more.faults); reads = omega (arith, seen.reads, more.reads); writes = more.writes ∙ seen.writes };
     }
+
+pub returns-in_err-found-clause-cause : goal.returns-in_err-found-clause-cause
+returns-in_err-found-clause-cause g c =
+    let start = g.P.Port.counts c.args.desk.now.port.now in
+    let after = g.P.Port.counts c.ask_branches.new.port in
+    let holder = g.T.Turns.means c.down.desk.turns in
+    if_err_same c.from_residual.result c.in_err-found.field-0.0 (HasLookCause g.P.Seal.Seal.TELLS start after holder) c.from_residual.ensures.1
+    (read_stops g.P.Seal.Seal.TELLS start (g.P.Port.counts c.down.desk.port.now) after holder c.in_err-found.field-0.0 c.down.invariant.counts c.in_err-found.ensures.cause)

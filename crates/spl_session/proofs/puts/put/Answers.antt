@@ -78,22 +78,22 @@ loop-place-preserved g c =
     let alike = alike_of old mid inv.called in
     let none = no_call_then kind old mid new was between saw alike inv.no_call
     (λ history s. subst (λ (p : Progress). AfterAttempt kind mid history new saw made (Ok p)) c.in-Frozen.is (c.in_ok-place.ensures.made history s)) in
-    let after = g.T.Turns.means c.room.new.desk.turns in
-    let seen = g.T.Turns.saw c.room.new.desk.turns in
+    let after = g.T.Turns.means c.make_way.new.desk.turns in
+    let seen = g.T.Turns.saw c.make_way.new.desk.turns in
     let called = called_on old mid new inv.called c.attempt_or_give_up.ensures.called in
     record {
-      called = called_on old new after called c.room.ensures.called;
-      ready = c.room.ensures.ready;
-      no_call = no_call_then kind old new after was saw seen (alike_of old new called) none c.room.ensures.no_call;
-      law = c.room.ensures.law ∙ inv.law;
-      device = c.room.ensures.device ∙ inv.device;
-      pager = c.room.ensures.pager ∙ inv.pager;
-      port = fell_on (g.P.Port.counts c.args.desk.now.port.now) (g.P.Port.counts c.loop-place.desk.port.now) (g.P.Port.counts c.room.new.desk.port.now) inv.port c.room.ensures.port;
-      few = let below = c.in_ok-place.ensures.ok_few in let more = c.in_ok-room-in-Frozen.ensures.ok_few in omega (arith, below, more);
+      called = called_on old new after called c.make_way.ensures.called;
+      ready = c.make_way.ensures.ready;
+      no_call = no_call_then kind old new after was saw seen (alike_of old new called) none c.make_way.ensures.no_call;
+      law = c.make_way.ensures.law ∙ inv.law;
+      device = c.make_way.ensures.device ∙ inv.device;
+      pager = c.make_way.ensures.pager ∙ inv.pager;
+      port = fell_on (g.P.Port.counts c.args.desk.now.port.now) (g.P.Port.counts c.loop-place.desk.port.now) (g.P.Port.counts c.make_way.new.desk.port.now) inv.port c.make_way.ensures.port;
+      few = let below = c.in_ok-place.ensures.ok_few in let more = c.in_ok-make_way-in-Frozen.ensures.ok_few in omega (arith, below, more);
     }
 
-pub returns-in_err-room-in-Frozen-clause-failed : goal.returns-in_err-room-in-Frozen-clause-failed
-returns-in_err-room-in-Frozen-clause-failed g c =
+pub returns-in_err-make_way-in-Frozen-clause-failed : goal.returns-in_err-make_way-in-Frozen-clause-failed
+returns-in_err-make_way-in-Frozen-clause-failed g c =
     let kind = branch_kind g.P.Seal.Seal.TELLS in
     let old = g.T.Turns.means c.args.desk.now.turns in
     let mid = g.T.Turns.means c.loop-place.desk.turns in
@@ -106,14 +106,14 @@ returns-in_err-room-in-Frozen-clause-failed g c =
     let alike = alike_of old mid inv.called in
     let none = no_call_then kind old mid new was between saw alike inv.no_call
     (λ history s. subst (λ (p : Progress). AfterAttempt kind mid history new saw made (Ok p)) c.in-Frozen.is (c.in_ok-place.ensures.made history s)) in
-    let after = g.T.Turns.means c.room.new.desk.turns in
-    let seen = g.T.Turns.saw c.room.new.desk.turns in
+    let after = g.T.Turns.means c.make_way.new.desk.turns in
+    let seen = g.T.Turns.saw c.make_way.new.desk.turns in
     let called = called_on old mid new inv.called c.attempt_or_give_up.ensures.called in
-    λ history s. on_err c.from_residual-in_err-room-in-Frozen.result _
-    (no_call_then kind old new after was saw seen (alike_of old new called) none c.room.ensures.no_call history s)
+    λ history s. on_err c.from_residual-in_err-make_way-in-Frozen.result _
+    (no_call_then kind old new after was saw seen (alike_of old new called) none c.make_way.ensures.no_call history s)
 
-pub returns-in_err-room-in-Frozen-clause-cause : goal.returns-in_err-room-in-Frozen-clause-cause
-returns-in_err-room-in-Frozen-clause-cause g c =
+pub returns-in_err-make_way-in-Frozen-clause-cause : goal.returns-in_err-make_way-in-Frozen-clause-cause
+returns-in_err-make_way-in-Frozen-clause-cause g c =
     let kind = branch_kind g.P.Seal.Seal.TELLS in
     let old = g.T.Turns.means c.args.desk.now.turns in
     let mid = g.T.Turns.means c.loop-place.desk.turns in
@@ -126,12 +126,12 @@ returns-in_err-room-in-Frozen-clause-cause g c =
     let alike = alike_of old mid inv.called in
     let none = no_call_then kind old mid new was between saw alike inv.no_call
     (λ history s. subst (λ (p : Progress). AfterAttempt kind mid history new saw made (Ok p)) c.in-Frozen.is (c.in_ok-place.ensures.made history s)) in
-    let after = g.T.Turns.means c.room.new.desk.turns in
-    let seen = g.T.Turns.saw c.room.new.desk.turns in
+    let after = g.T.Turns.means c.make_way.new.desk.turns in
+    let seen = g.T.Turns.saw c.make_way.new.desk.turns in
     let called = called_on old mid new inv.called c.attempt_or_give_up.ensures.called in
     let cause = cause_then kind old new after was saw seen (alike_of old new called) none
-    (g.P.Port.counts c.args.desk.now.port.now) (g.P.Port.counts c.loop-place.desk.port.now) (g.P.Port.counts c.room.new.desk.port.now) c.in_err-room-in-Frozen.field-0.0 inv.port
-    c.in_err-room-in-Frozen.ensures.cause in
-    λ history s. if_err_same c.from_residual-in_err-room-in-Frozen.result c.in_err-room-in-Frozen.field-0.0
-    (HasCallCause kind old history after seen (g.P.Port.counts c.args.desk.now.port.now) (g.P.Port.counts c.room.new.desk.port.now))
-    c.from_residual-in_err-room-in-Frozen.ensures.1 (cause history s)
+    (g.P.Port.counts c.args.desk.now.port.now) (g.P.Port.counts c.loop-place.desk.port.now) (g.P.Port.counts c.make_way.new.desk.port.now) c.in_err-make_way-in-Frozen.field-0.0 inv.port
+    c.in_err-make_way-in-Frozen.ensures.cause in
+    λ history s. if_err_same c.from_residual-in_err-make_way-in-Frozen.result c.in_err-make_way-in-Frozen.field-0.0
+    (HasCallCause kind old history after seen (g.P.Port.counts c.args.desk.now.port.now) (g.P.Port.counts c.make_way.new.desk.port.now))
+    c.from_residual-in_err-make_way-in-Frozen.ensures.1 (cause history s)
