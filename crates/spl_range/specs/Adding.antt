@@ -21,7 +21,7 @@ pub record PutsUnder (rule : Rule) (old new : Entries) (key : List ℕ) (older :
 abbrev pub under : Entries → Entries → List ℕ → List Message
 under older newer key = option_to_list (message_in older key) ++ option_to_list (message_in newer key)
 
--- for each key the entries, with those that are still to come under them, do what the first entries do with all those under them
+-- for each key the entries, with those that are left to put under them, do what the first entries do with all of those
 abbrev pub ComeTo : Rule → Entries → Entries → Entries → Entries → Type 0
 ComeTo rule left now all first = (key : List ℕ) (cell : Cell) → act_all rule key cell (under left now key) ≡ act_all rule key cell (under all first key)
 

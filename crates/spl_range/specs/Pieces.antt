@@ -33,8 +33,8 @@ pub record IsPart (span : Span) (piece : Piece) : Type 0 where
   pub order : AreInOrder piece.pairs
   pub inside : AllByRecursion (λ pair. in_span piece.span pair.0 ≡ true) piece.pairs
 
--- The holder's only call is for a piece of the span, at the piece's place, and where devices tell, the piece is right for that place: its pairs are
--- the keys between its ends that have a value there.
+-- The holder's only call is for a piece of the span, at the piece's place. Where devices tell, the piece is right for
+-- that place: its pairs are the keys of its span that have a value there.
 abbrev pub Pieced : {B : Type 0} → BranchKind B → Holder → History → Holder → (History → Type 0) → Span → Piece → Type 0
 Pieced kind old history new Saw span piece = Went kind old history new Saw (λ turns seen.
     IsOnlyCall old.actor history (call.Piece span) piece.place turns seen

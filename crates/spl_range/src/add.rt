@@ -50,7 +50,8 @@ pub(crate) fn add_slices<L: MergeLaw>(
     found: &mut BTreeMap<Key, Message>,
 ) -> Result<(), NoMemory>
     requires { L.ready law.now }
-    ensures { OnOk result ((key : List ℕ) → AddsAt (L.rule law.now) (chain slices.now) found.old.entries found.new.entries key) }
+    ensures { OnOk result ((key : List ℕ)
+        → AddsAt (L.rule law.now) (chain slices.now) found.old.entries found.new.entries key) }
 {
     let parts = slices.as_slice();
     let mut left = parts.len();
@@ -72,7 +73,7 @@ fn fault_of(fault: BranchFault) -> CallFault
     }
 }
 
-/// A scan of the branch. Where pages are told, so are those of the branch, and its entries are in the order of their keys.
+/// A scan of the branch. Where pages are told, so are those of the branch, and its entries are in order.
 fn scan_of<S: Seal>(
     alloc: Global,
     branch: &Arc<Branch<S>>,

@@ -29,8 +29,8 @@ use spl_port::Port;
 use spl_state::Sight;
 use std::collections::BTreeMap;
 
-/// Puts what the branches from the node of the sight down have under what is in hand, for the keys of the part of the sight's span that is
-/// answered. Ends the descent.
+/// Puts what the branches from the node of the sight down have under what is in hand, and ends the descent. Returns the
+/// part of the sight's span for whose keys this is all.
 fn gather<T: Turns<Branch<P::Seal>>, P: Port, G: Pager, L: MergeLaw>(
     desk: &mut Desk<'_, T, P, G, L>,
     sight: Sight<Branch<P::Seal>>,
@@ -53,7 +53,8 @@ fn gather<T: Turns<Branch<P::Seal>>, P: Port, G: Pager, L: MergeLaw>(
     ensures value { P.Seal.TELLS ≡ true → IfOk result (λ span. (key : List ℕ) → InSpan span key
         → (let rule = (T.means desk.old.turns).rule in
         act_all rule key None (option_to_list (message_in found.new.entries key))
-        ≡ act_all rule key (rest rule (T.means desk.old.turns).at sight.node key) (option_to_list (message_in found.old.entries key)))) }
+        ≡ act_all rule key (rest rule (T.means desk.old.turns).at sight.node key)
+        (option_to_list (message_in found.old.entries key)))) }
     ensures free { OnOk result (MayCall (T.means desk.new.turns)) }
     ensures walk { (history : History) → T.saw desk.old.turns history → MadeNoCall (branch_kind P.Seal.TELLS)
         (T.means desk.old.turns) history (T.means desk.new.turns) (T.saw desk.new.turns) }
@@ -102,8 +103,8 @@ fn is_end(span: &Span, end: &Option<Bound>) -> bool
     }
 }
 
-/// The part of the span that is answered, and its keys that have a value, as the descent of the sight finds them from the root on. Ends the
-/// descent. An end with more bytes than a key has, at which no node ends, counts as out of memory.
+/// A first part of the span, and its keys that have a value, as the descent of the sight finds them from the root on.
+/// Ends the descent. An end with more bytes than a key, at which no node ends, counts as out of memory.
 pub(crate) fn pairs_at<T: Turns<Branch<P::Seal>>, P: Port, G: Pager, L: MergeLaw>(
     desk: &mut Desk<'_, T, P, G, L>,
     asked: &Span,
@@ -129,7 +130,8 @@ pub(crate) fn pairs_at<T: Turns<Branch<P::Seal>>, P: Port, G: Pager, L: MergeLaw
     ensures order { IfOk result (λ read. AreInOrder read.1) }
     ensures inside { IfOk result (λ read. AllByRecursion (λ pair. in_span read.0 pair.0 ≡ true) read.1) }
     ensures values { P.Seal.TELLS ≡ true → IfOk result (λ read. let rule = (T.means desk.old.turns).rule in
-        AreValues read.0 (λ key. act_all rule key (rest rule (T.means desk.old.turns).at sight.node key) (chain sight.tables key)) read.1) }
+        AreValues read.0 (λ key. act_all rule key (rest rule (T.means desk.old.turns).at sight.node key)
+        (chain sight.tables key)) read.1) }
     ensures free { OnOk result (MayCall (T.means desk.new.turns)) }
     ensures walk { (history : History) → T.saw desk.old.turns history → MadeNoCall (branch_kind P.Seal.TELLS)
         (T.means desk.old.turns) history (T.means desk.new.turns) (T.saw desk.new.turns) }

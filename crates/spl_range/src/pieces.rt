@@ -26,7 +26,7 @@ pub struct Piece {
     pub pairs: Pairs,
 }
 
-/// A scan of a span, in pieces. A clause sees what is left of the span, and `None` once the last piece was given or the scan was stopped.
+/// A scan of a span, in pieces. A clause sees what is left of the span: `None` after the last piece and after an error.
 #[derive(Debug, Drop)]
 pub struct Pieces {
     left: Option<Span>,
