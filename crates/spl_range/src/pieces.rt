@@ -69,8 +69,8 @@ impl Pieces {
         ensures pager { desk.new.pager.now ≡ desk.old.pager.now }
 
         // There is none exactly where nothing is left, and then nothing is asked.
-        ensures none { self.old ≡ None → (result ≡ Ok None) × (desk.new.turns ≡ desk.old.turns)
-            × (P.counts desk.new.port.now ≡ P.counts desk.old.port.now) }
+        ensures none { self.old ≡ None → (result ≡ Ok None) × (self.new ≡ None)
+            × (desk.new.turns ≡ desk.old.turns) × (P.counts desk.new.port.now ≡ P.counts desk.old.port.now) }
         ensures some { IfSome self.old (λ span. IfOk result (λ next. IsSome next)) }
 
         // The piece is the first part of what is left, and what is left then starts where it ends.
