@@ -8,6 +8,8 @@ mod engine;
 mod leaves;
 #[cfg(test)]
 mod random;
+#[cfg(test)]
+mod rows;
 mod step;
 #[cfg(test)]
 mod tests;

@@ -19,7 +19,10 @@ use std::alloc::Global;
 use std::sync::Arc;
 use std::test::Fail;
 
-const TURNS: u32 = 10000;
+/// The schedule ends at so many steps, or a few more, and has no more turns than this.
+const STEPS: u64 = 100_000;
+
+const TURNS: u32 = 100_000;
 
 const EXTENTS: u32 = 32;
 
@@ -790,6 +793,9 @@ fn lookups_between_random_steps_find_what_was_put(rt: HostRuntime) -> Result<(),
         seats.push(seat_of(rt.alloc()))?;
     }
     for _turn in 0..TURNS {
+        if core.steps() >= STEPS {
+            break;
+        }
         let actor = table.random.below(4);
         if let Some(seat) = seats.get_mut(actor as usize) {
             turn(&mut core, &mut table, seat, actor)?;
@@ -800,6 +806,7 @@ fn lookups_between_random_steps_find_what_was_put(rt: HostRuntime) -> Result<(),
             act(&mut core, &mut table, seat, actor, Deed::Abandon)?;
         }
     }
+    assert!(rt; core.steps() >= STEPS);
     let counts = table.counts;
     assert!(rt; counts.incorporated > 0 && counts.installed > 0 && counts.heirs > 0);
     assert!(rt; counts.flushed > 0 && counts.raised > 0 && counts.split > 0);

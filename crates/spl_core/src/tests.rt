@@ -17,7 +17,7 @@ const EVERYTHING: Span = Span {
 
 /// A branch in one extent, of which nothing is told.
 #[derive(Drop)]
-struct Thin {
+pub(crate) struct Thin {
     number: u64,
     extents: [u32; 1],
 }
@@ -59,7 +59,11 @@ impl Content for Thin {
 }
 
 /// Makes a step of a core that has made few.
-fn make(core: &mut Core<Thin, Newest>, actor: u32, step: Step<Thin>) -> Result<Reply<Thin>, Fail>
+pub(crate) fn make(
+    core: &mut Core<Thin, Newest>,
+    actor: u32,
+    step: Step<Thin>,
+) -> Result<Reply<Thin>, Fail>
     requires { actor < ACTORS }
 {
     if core.steps() >= 1 << 46 {
@@ -139,12 +143,21 @@ fn word(reply: &Reply<Thin>) -> &'static str {
         Reply::NeedsRoom => "needs room",
         Reply::Moved { .. } => "moved",
         Reply::Outside => "outside",
+        Reply::Pivots { pivots: 16 } => "16 pivots",
+        Reply::Nodes { nodes: 4096 } => "4096 nodes",
+        Reply::NeedsCompact { branches: 40 } => "40 branches",
+        Reply::Crossed {
+            child: Some(1),
+            mark: 1,
+        } => "crossed at 1",
+        Reply::NoNode { nodes: 2 } => "2 nodes",
+        Reply::NoNode { nodes: 3 } => "3 nodes",
         _ => "something else",
     }
 }
 
 /// Makes a step, which has to be answered with this word.
-fn expect(
+pub(crate) fn expect(
     core: &mut Core<Thin, Newest>,
     actor: u32,
     step: Step<Thin>,
@@ -161,7 +174,7 @@ fn expect(
 }
 
 /// Takes a claim on the node, and makes it a write.
-fn write(core: &mut Core<Thin, Newest>, actor: u32, node: u32) -> Result<(), Fail>
+pub(crate) fn write(core: &mut Core<Thin, Newest>, actor: u32, node: u32) -> Result<(), Fail>
     requires { actor < ACTORS }
 {
     expect(core, actor, Step::Claim { node }, "done")?;
@@ -188,8 +201,8 @@ fn publish(
     expect(core, actor, Step::Publish { branch }, "done")
 }
 
-/// Fills the memtable, freezes it, and hangs its branch, of number 0, at the root, which actor 0 then writes.
-fn hang_one(alloc: Global, core: &mut Core<Thin, Newest>) -> Result<(), Fail> {
+/// Fills the memtable, freezes it, and hangs its branch, of this number, at the root, which actor 0 then writes.
+fn hang_one(alloc: Global, core: &mut Core<Thin, Newest>, number: u64) -> Result<(), Fail> {
     for number in 0u16..1024 {
         let key = Key::read(&number.to_be_bytes())?;
         let message = Message::Delete;
@@ -197,9 +210,19 @@ fn hang_one(alloc: Global, core: &mut Core<Thin, Newest>) -> Result<(), Fail> {
     }
     expect(core, 0, Step::Rotate, "rotated")?;
     expect(core, 0, Step::PickFrozen, "picked")?;
-    publish(alloc, core, 0, 0)?;
+    publish(alloc, core, 0, number)?;
     write(core, 0, 0)?;
     expect(core, 0, Step::Incorporate, "done")
+}
+
+/// Does the same, and leaves the root.
+pub(crate) fn hang_next(
+    alloc: Global,
+    core: &mut Core<Thin, Newest>,
+    number: u64,
+) -> Result<(), Fail> {
+    hang_one(alloc, core, number)?;
+    expect(core, 0, Step::Unlock { node: 0 }, "done")
 }
 
 /// Asks for the bundle with number 0 of node 1, to merge it.
@@ -246,7 +269,7 @@ fn install(core: &mut Core<Thin, Newest>, node: u32, wanted: &'static str) -> Re
 #[test]
 fn a_merge_goes_on_in_both_parts_of_a_node_that_was_split(rt: HostRuntime) -> Result<(), Fail> {
     let mut core = Core::new(rt.alloc(), 2, 1, Newest)?;
-    hang_one(rt.alloc(), &mut core)?;
+    hang_one(rt.alloc(), &mut core, 0)?;
     raise(&mut core)?;
     split(&mut core)?;
     publish(rt.alloc(), &mut core, 1, 1)?;
