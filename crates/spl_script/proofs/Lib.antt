@@ -1,3 +1,8 @@
+pub mod Again
 pub mod Callers
+pub mod Canonical
 pub mod Parts
-pub mod Lines
+pub mod PlainLines
+pub mod Readings
+pub mod Seeds
+pub mod Texts

@@ -1,17 +1,9 @@
 -- The fields of a line.
-use Rattle.std.specs.Prelude.{◌≡◌, ℕ, ◌==◌, nat_lt, nat_le, Bool, ◌&&◌, not, if◌then◌else◌, List, [], ◌∷◌, length, Option, Some, None, Result, Ok, Err}
+use Rattle.std.specs.Prelude.{ℕ, ◌==◌, nat_lt, nat_le, Bool, ◌&&◌, not, if◌then◌else◌, List, [], ◌∷◌, length, Option, Some, None, Result, Ok, Err}
 use Rattle.std.specs.List.{list_all}
-use Rattle.std.specs.Char.{is_ascii_digit}
-use Rattle.std.specs.Str.Parse.{digits_value}
 use Rattle.spl_script.specs.declared.fault.LineWhy.{LineWhy}
 use Rattle.spl_script.specs.declared.fault.LineWhy.TheVariants.{Text, Key, Value}
 use Rattle.spl_script.specs.Reading.{◌>>=◌, told}
-
--- a caller is 1 to 20 decimal digits whose number is below the number of callers
-abbrev pub caller_of : ℕ → List ℕ → Option ℕ
-caller_of callers field =
-    if nat_lt 0 (length field) && nat_le (length field) 20 && list_all is_ascii_digit field && nat_lt (digits_value 10 field) callers
-    then Some (digits_value 10 field) else None
 
 -- a byte from `!` to `~` that is no `%` stands for itself
 abbrev pub is_plain_byte : ℕ → Bool

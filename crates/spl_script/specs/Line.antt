@@ -1,7 +1,6 @@
 -- A line: the caller, the verb and the verb's fields, with one space between two.
-use Rattle.std.specs.Prelude.{◌≡◌, ℕ, ◌==◌, Bool, ◌||◌, if◌then◌else◌, List, [], ◌∷◌, length, codes, Option, Some, None, Result, Ok, Err}
-use Rattle.std.specs.Borrow.{Bor}
-use Rattle.std.specs.List.{list_any, slice_split}
+use Rattle.std.specs.Prelude.{ℕ, ◌==◌, Bool, ◌||◌, if◌then◌else◌, List, ◌∷◌, length, codes, Result, Ok, Err}
+use Rattle.std.specs.List.{list_any}
 use Rattle.std.specs.Str.{bytes_eq}
 use Rattle.spl_message.specs.declared.call.Call.TheVariants.{Put, Look}
 use Rattle.spl_message.specs.declared.message.Message.TheVariants.{Insert, Delete}
@@ -10,30 +9,10 @@ use Rattle.spl_script.specs.declared.fault.LineWhy.TheVariants.{Fields, Caller, 
 use Rattle.spl_script.specs.declared.script.Deed.{Deed}
 use Rattle.spl_script.specs.declared.script.Deed.TheVariants.{One}
 use Rattle.spl_script.specs.declared.script.ScriptLine.{ScriptLine}
-use Rattle.spl_script.specs.Field.{caller_of, key_of, value_of}
+use Rattle.spl_script.specs.Field.{key_of, value_of}
+use Rattle.spl_script.specs.Names.{caller_of}
+use Rattle.spl_script.specs.Verb.{fields_of, only, both}
 use Rattle.spl_script.specs.Reading.{◌>>=◌, told}
-
--- the fields of a text: what stands between its spaces
-abbrev pub fields_of : List ℕ → List (List ℕ)
-fields_of text = slice_split (λ byte. byte == 32) text
-
--- the fields of what is left of a line, which may be nothing
-abbrev pub fields_in : Option (Bor (List ℕ)) → List (List ℕ)
-fields_in None = []
-fields_in (Some rest) = fields_of rest.now
-
--- the item of a list of one
-abbrev pub only : {X : Type 0} → List X → Option X
-only (x ∷ []) = Some x
-only [] = None
-only (x ∷ y ∷ ys) = None
-
--- the items of a list of two
-abbrev pub both : {X : Type 0} → List X → Option (X × X)
-both [] = None
-both (x ∷ []) = None
-both (x ∷ y ∷ []) = Some (x, y)
-both (x ∷ y ∷ z ∷ zs) = None
 
 -- `put KEY =VALUE`
 abbrev pub put_of : List (List ℕ) → Result Deed LineWhy

@@ -1,31 +1,10 @@
-ghost use Rattle.std.specs.Prelude.{◌≡◌, ◌<◌, IfSome};
-ghost use Rattle.spl_script.specs.Field.{caller_of, key_of, value_of, is_plain_text};
+ghost use Rattle.std.specs.Prelude.{◌≡◌};
+ghost use Rattle.spl_script.specs.Field.{key_of, value_of, is_plain_text};
 ghost use Rattle.spl_script.specs.Reading.{Gives, told};
 
 use crate::fault::{LineFault, LineWhy};
 use spl_message::{Key, KeyFault, Value, ValueFault};
 use std::alloc::Global;
-
-/// The caller that a field names: 1 to 20 decimal digits whose number is below the number of callers.
-pub fn read_caller(field: &[u8], callers: u32) -> Option<u32>
-    ensures value { result ≡ caller_of callers field.now }
-    ensures below { IfSome result (λ caller. caller < callers) }
-{
-    if field.is_empty() || field.len() > 20 {
-        return None;
-    }
-    let mut number: u64 = 0;
-    for byte in field {
-        if !byte.is_ascii_digit() {
-            return None;
-        }
-        number = 10 * number + (*byte - b'0') as u64;
-        if number >= callers as u64 {
-            return None;
-        }
-    }
-    Some(number as u32)
-}
 
 /// Whether each byte stands for itself in a text.
 pub fn is_plain(text: &[u8]) -> bool

@@ -1,40 +1,19 @@
 ghost use Rattle.std.specs.Prelude.{◌≡◌, ◌<◌, IfOk};
-ghost use Rattle.std.specs.Option.{option_copied, option_map};
 ghost use Rattle.spl_script.specs.Deed.{IsDeed};
-ghost use Rattle.spl_script.specs.Line.{deed_of, put_of, delete_of, look_of, line_of, fields_in, is_later, only, both};
+ghost use Rattle.spl_script.specs.Line.{deed_of, put_of, delete_of, look_of, line_of, is_later};
+ghost use Rattle.spl_script.specs.Verb.{fields_in};
 ghost use Rattle.spl_script.specs.Reading.{Gives};
 
 use crate::fault::{LineFault, LineWhy};
-use crate::field::{read_caller, read_key, read_value};
+use crate::field::{read_key, read_value};
+use crate::names::read_caller;
 use crate::part::first_part;
 use crate::script::{Deed, ScriptLine};
+use crate::verb::{one_field, two_fields};
 use spl_message::{Call, Message};
 use std::alloc::Global;
 
 const SPACE: u8 = b' ';
-
-#[tactic(auto, using(crate::proofs::Parts::only_of_more))]
-/// The one field behind the verb, where there is just one.
-fn one_field(rest: Option<&[u8]>) -> Option<&[u8]>
-    ensures { option_copied result ≡ only (fields_in rest.entry) }
-{
-    match first_part(rest?, SPACE) {
-        (field, None) => Some(field),
-        (_, Some(_)) => None,
-    }
-}
-
-#[tactic(auto, using(crate::proofs::Parts::both_of_one, crate::proofs::Parts::both_of_more))]
-/// The two fields behind the verb, where there are just two.
-fn two_fields(rest: Option<&[u8]>) -> Option<(&[u8], &[u8])>
-    ensures { option_map (λ fields. (fields.0.now, fields.1.now)) result ≡ both (fields_in rest.entry) }
-{
-    let (first, rest) = first_part(rest?, SPACE);
-    match first_part(rest?, SPACE) {
-        (second, None) => Some((first, second)),
-        (_, Some(_)) => None,
-    }
-}
 
 /// The put of the fields behind the verb.
 fn read_put(alloc: Global, rest: Option<&[u8]>) -> Result<Deed, LineFault>

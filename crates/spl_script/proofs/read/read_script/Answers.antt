@@ -1,10 +1,10 @@
-use Rattle.std.proofs.Common.{◌≡◌, ◌+◌, ◌-◌, ◌≤◌, ◌<◌, ℕ, arith, eqb, sym, ap, ◌∙◌, length, length-append}
+use Rattle.std.proofs.Common.{◌≡◌, ◌+◌, ◌<◌, arith, eqb, sym, ap, ◌∙◌, length, length-append}
 use Rattle.std.proofs.lemmas.List.Elements.{All-push}
 use Rattle.std.proofs.lemmas.List.{length-take}
 use Rattle.std.proofs.lemmas.Result.{on_ok_weaker}
 use Rattle.spl_script.specs.declared.script.ScriptLine.{ScriptLine}
 use Rattle.spl_script.specs.Deed.{IsDeed}
-use Rattle.spl_script.proofs.Lines.{nothing_read, line_read, fault_told}
+use Rattle.spl_script.proofs.PlainLines.{nothing_read, line_read, fault_told}
 use Rattle.spl_script.proofs.read.read_script.Goals as goal
 
 pub loop-after-init : goal.loop-after-init

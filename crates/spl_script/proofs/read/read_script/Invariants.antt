@@ -1,8 +1,8 @@
-use Rattle.std.proofs.Common.{◌≡◌, ◌+◌, ◌-◌, ◌<◌, ◌≤◌, ℕ, eqb, take, length}
+use Rattle.std.proofs.Common.{◌≡◌, ◌+◌, ◌-◌, ◌<◌, ◌≤◌, eqb, take, length}
 use Rattle.std.specs.List.{slice_split, All}
 use Rattle.spl_script.specs.Deed.{IsDeed}
 use Rattle.spl_script.specs.Script.{script_text, lines_from}
-use Rattle.spl_script.proofs.Lines.{behind}
+use Rattle.spl_script.proofs.PlainLines.{behind}
 use Rattle.spl_script.proofs.read.read_script.Given as goal
 
 abbrev pub invariant-loop-after : goal.invariant-loop-after

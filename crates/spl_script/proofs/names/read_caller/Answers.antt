@@ -1,7 +1,7 @@
-use Rattle.std.proofs.Common.{◌≡◌, ◌*◌, ◌+◌, ◌-◌, ◌≤◌, ◌<◌, length, arith, sym, get_or, take}
+use Rattle.std.proofs.Common.{◌≡◌, ◌*◌, ◌+◌, ◌-◌, ◌<◌, length, arith, sym, get_or, take}
 use Rattle.std.specs.Str.Parse.{digits_value}
 use Rattle.spl_script.proofs.Callers.{none_at_other, none_at_large, digits_more, value_more, some_at_end, not_empty}
-use Rattle.spl_script.proofs.field.read_caller.Goals as goal
+use Rattle.spl_script.proofs.names.read_caller.Goals as goal
 
 pub returns-then-not-is_ascii_digit-clause-value : goal.returns-then-not-is_ascii_digit-clause-value
 returns-then-not-is_ascii_digit-clause-value c =

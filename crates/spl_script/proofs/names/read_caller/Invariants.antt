@@ -2,7 +2,7 @@ use Rattle.std.proofs.Common.{◌≡◌, ◌≤◌, ◌<◌, true, take}
 use Rattle.std.specs.Char.{is_ascii_digit}
 use Rattle.std.specs.List.{list_all}
 use Rattle.std.specs.Str.Parse.{digits_value}
-use Rattle.spl_script.proofs.field.read_caller.Given as goal
+use Rattle.spl_script.proofs.names.read_caller.Given as goal
 
 -- the digits so far spell the number, which is below the number of callers once there is a digit
 abbrev pub invariant-loop-byte : goal.invariant-loop-byte
