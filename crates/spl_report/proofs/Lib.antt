@@ -1,0 +1,11 @@
+pub mod AnswerTexts
+pub mod CallTexts
+pub mod Lists
+pub mod Logs
+pub mod Members
+pub mod Merging
+pub mod Numbers
+pub mod OneReport
+pub mod Order
+pub mod Places
+pub mod Spellings

@@ -1,0 +1,16 @@
+-- What holds of each item of a list, by cases on the list.
+use Rattle.std.proofs.Common.{◌≡◌, Bool, false, cond, List, [], ◌∷◌, ◌++◌, filter, refl, ap, ◌∙◌}
+use Rattle.std.specs.List.{AllByRecursion}
+
+module _ {X : Type 0} where
+  pub all_push : (P : X → Type 0) (xs : List X) (x : X) → AllByRecursion P xs → P x → AllByRecursion P (xs ++ x ∷ [])
+  all_push P [] x h p = (p, tt)
+  all_push P (y ∷ ys) x h p = (h.0, all_push P ys x h.1 p)
+
+  pub all_append : (P : X → Type 0) (xs ys : List X) → AllByRecursion P xs → AllByRecursion P ys → AllByRecursion P (xs ++ ys)
+  all_append P [] ys h p = p
+  all_append P (x ∷ xs) ys h p = (h.0, all_append P xs ys h.1 p)
+
+  pub filter_none : (p : X → Bool) (xs : List X) → AllByRecursion (λ x. p x ≡ false) xs → filter p xs ≡ []
+  filter_none p [] h = refl
+  filter_none p (x ∷ xs) h = ap (λ b. cond b (x ∷ filter p xs) (filter p xs)) h.0 ∙ filter_none p xs h.1
