@@ -1,10 +1,13 @@
-ghost use Rattle.std.specs.Prelude.{◌≡◌, ◌<◌, ◌^◌, if◌then◌else◌, IfErr, IfOk, OnOk};
+ghost use Rattle.std.specs.Prelude.{◌≡◌, ◌≢◌, ◌<◌, ◌^◌, false, if◌then◌else◌, Ok, IfErr, IfOk, OnOk};
+ghost use Rattle.spl_message.specs.History.{History};
 ghost use Rattle.spl_holds.specs.declared.grip.Grip.TheVariants as grip;
 ghost use Rattle.spl_state.specs.View.{branch_data};
 ghost use Rattle.spl_desk.specs.Calls.{HasSeen, MadeFew};
 ghost use Rattle.spl_desk.specs.Holder.{kind_of};
-ghost use Rattle.spl_desk.specs.Quiet.{IsQuiet};
-ghost use Rattle.spl_job.specs.Holding.{Holding, IsHolding, after_latch, with_grip};
+ghost use Rattle.spl_desk.specs.Quiet.{IsQuiet, WasMade};
+ghost use Rattle.spl_job.specs.Holding.{Holding, Holds, IsHolding, after_latch, with_grip};
+ghost use Rattle.spl_job.specs.Latching.{IsLockTurn, IsRefusal};
+ghost use Rattle.spl_enter.specs.Both.{IsRefusalOf, after_both};
 ghost use Rattle.spl_enter.specs.Turning.{HasTurnCause};
 
 use crate::check::check_turns;
@@ -24,6 +27,9 @@ fn raise<B: Content, T: Turns<B>>(turns: &mut T, node: u32) -> Result<bool, Call
     ensures ready { T.ready turns.new }
     ensures holds { (holding : Holding) → IsHolding (T.means turns.old) holding → holding.grips node ≡ grip.Claim
         → IfOk result (λ made. IsHolding (T.means turns.new) (with_grip holding node (if made then grip.Write else grip.Free))) }
+    ensures refused { result ≡ Ok false → (history : History) → T.saw turns.old history → WasMade
+        (kind_of B.number (branch_data B.extents B.entries B.cuts B.table) B.TELLS)
+        (T.means turns.old) history (T.means turns.new) (T.saw turns.new) (IsLockTurn node false) }
     ensures left { OnOk result ((T.means turns.old).turns < (T.means turns.new).turns) }
     ensures cause { IfErr result (HasTurnCause (T.means turns.new)) }
 {
@@ -41,14 +47,17 @@ pub fn enter<B: Content, T: Turns<B>>(turns: &mut T, node: u32) -> Result<bool, 
     requires turns { (T.means turns.old).turns < 2 ^ 41 }
     requires ready { T.ready turns.old }
     requires seen { HasSeen (T.saw turns.old) }
-    requires holds { (holding : Holding) × IsHolding (T.means turns.old) holding
+    requires holds { (holding : Holding) × Holds (T.means turns.old) holding
         × (holding.grips node ≡ grip.Free) × (node < holding.told) }
     ensures quiet { IsQuiet (kind_of B.number (branch_data B.extents B.entries B.cuts B.table) B.TELLS)
         (T.means turns.old) (T.saw turns.old) (T.means turns.new) (T.saw turns.new) }
     ensures few { MadeFew (T.means turns.old) (T.means turns.new) 0 }
     ensures ready { T.ready turns.new }
-    ensures holds { (holding : Holding) → IsHolding (T.means turns.old) holding → holding.grips node ≡ grip.Free
+    ensures holds { (holding : Holding) → Holds (T.means turns.old) holding → holding.grips node ≡ grip.Free
         → IfOk result (λ made. IsHolding (T.means turns.new) (after_latch holding node made grip.Write)) }
+    ensures refused { result ≡ Ok false → (history : History) → T.saw turns.old history → WasMade
+        (kind_of B.number (branch_data B.extents B.entries B.cuts B.table) B.TELLS)
+        (T.means turns.old) history (T.means turns.new) (T.saw turns.new) (IsRefusal node) }
     ensures left { OnOk result ((T.means turns.old).turns < (T.means turns.new).turns) }
     ensures cause { IfErr result (HasTurnCause (T.means turns.new)) }
 {
@@ -58,4 +67,42 @@ pub fn enter<B: Content, T: Turns<B>>(turns: &mut T, node: u32) -> Result<bool, 
     } else {
         Ok(false)
     }
+}
+
+/// Takes the write on the one node, and then on the other. Answers `false` where somebody else is in the way, and then keeps nothing of
+/// either.
+pub fn enter_both<B: Content, T: Turns<B>>(
+    turns: &mut T,
+    parent: u32,
+    child: u32,
+) -> Result<bool, CallFault>
+    requires turns { (T.means turns.old).turns < 2 ^ 41 }
+    requires ready { T.ready turns.old }
+    requires seen { HasSeen (T.saw turns.old) }
+    requires apart { parent ≢ child }
+    requires holds { (holding : Holding) × Holds (T.means turns.old) holding
+        × (holding.grips parent ≡ grip.Free) × (holding.grips child ≡ grip.Free)
+        × (parent < holding.told) × (child < holding.told) }
+    ensures quiet { IsQuiet (kind_of B.number (branch_data B.extents B.entries B.cuts B.table) B.TELLS)
+        (T.means turns.old) (T.saw turns.old) (T.means turns.new) (T.saw turns.new) }
+    ensures few { MadeFew (T.means turns.old) (T.means turns.new) 0 }
+    ensures ready { T.ready turns.new }
+    ensures holds { (holding : Holding) → Holds (T.means turns.old) holding
+        → holding.grips parent ≡ grip.Free → holding.grips child ≡ grip.Free
+        → IfOk result (λ made. IsHolding (T.means turns.new) (after_both holding parent child made)) }
+    ensures refused { result ≡ Ok false → (history : History) → T.saw turns.old history → WasMade
+        (kind_of B.number (branch_data B.extents B.entries B.cuts B.table) B.TELLS)
+        (T.means turns.old) history (T.means turns.new) (T.saw turns.new) (IsRefusalOf parent child) }
+    ensures left { OnOk result ((T.means turns.old).turns < (T.means turns.new).turns) }
+    ensures cause { IfErr result (HasTurnCause (T.means turns.new)) }
+{
+    if !enter(turns, parent)? {
+        return Ok(false);
+    }
+    if enter(turns, child)? {
+        return Ok(true);
+    }
+    check_turns(turns)?;
+    unlock(turns, parent);
+    Ok(false)
 }

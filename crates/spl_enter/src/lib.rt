@@ -8,4 +8,4 @@ mod check;
 mod entering;
 
 pub use check::check_turns;
-pub use entering::enter;
+pub use entering::{enter, enter_both};

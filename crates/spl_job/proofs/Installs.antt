@@ -61,7 +61,7 @@ pub may_end : (holder : Holder) (node : ℕ) (output tells : Bool) → MayInstal
 may_end holder node output tells may is none = merges_to_nothing holder may.0 may.1 may.2 may.3 may.4 (may.7 is none)
 
 -- what a job reads is named
-reads_named : (nodes : List NodeData) (all : List Actor) (actor number : ℕ) (run : Run) → actor < length all → (actor_in all actor).job ≡ Some (Merge number run) → (n : ℕ) → 0 < times n run.inputs → 0 < times n (mentioned nodes all)
+pub reads_named : (nodes : List NodeData) (all : List Actor) (actor number : ℕ) (run : Run) → actor < length all → (actor_in all actor).job ≡ Some (Merge number run) → (n : ℕ) → 0 < times n run.inputs → 0 < times n (mentioned nodes all)
 reads_named nodes all actor number run within job n some =
     let one : Actor = actor_in all actor in
     let mine : times n (named_by one) ≤ times n (flat_map named_by all) = times_one named_by n all actor idle within in

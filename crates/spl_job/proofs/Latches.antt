@@ -25,8 +25,8 @@ use Rattle.spl_core.specs.Steps.{IsAnswered}
 use Rattle.spl_desk.specs.Holder.{BranchKind, Holder, IsSameHolder}
 use Rattle.spl_desk.specs.Turn.{MadeTurn}
 use Rattle.spl_desk.proofs.Walks.{step_made}
-use Rattle.spl_job.specs.Holding.{HasHolding, Holding, IsHolding, with_grip}
-use Rattle.spl_job.proofs.Holds.{before_holding, now_holding, stays_holding}
+use Rattle.spl_job.specs.Holding.{HasHolding, Holding, Holds, IsHolding, with_grip}
+use Rattle.spl_job.proofs.Holds.{before_has, before_holding, now_holding, stays_has}
 
 same_numbers : (a b : ℕ) → a ≡ b → nat_eq a b ≡ true
 same_numbers a b same = grind (arith, nat_tests)
@@ -80,15 +80,15 @@ module _ {B : Type 0} (kind : BranchKind B) (old new : Holder) (history : Histor
 
   -- a latch step that is made again leaves what the actor has, and one that is done changes the grip on the node
   module _ (made : Step B) (turn : MadeTurn kind old new history made answer Saw) (wanted : Reply B) (now : Grip) (is : IsAnswered (refused turn.turn.before) wanted (gripped (refused turn.turn.before) old.actor node now) answer new.at) where
-    latch_done : old.actor < ACTORS → node < length turn.turn.before.grips → answer ≡ reply.Done → (p : Holding) → IsHolding old p → IsHolding new (with_grip p node now)
+    latch_done : old.actor < ACTORS → node < length turn.turn.before.grips → answer ≡ reply.Done → (p : Holding) → Holds old p → IsHolding new (with_grip p node now)
     latch_done known within done p holds =
         now_holding kind old new history made answer Saw turn (with_grip p node now) same.actor
         (subst (λ (w : Whole). HasHolding w old.actor (with_grip p node now)) (sym (is.done done))
-        (gripped_holding (refused turn.turn.before) old.actor node p now turn.legal.sound.latched within known (before_holding kind old new history made answer Saw turn p holds)))
+        (gripped_holding (refused turn.turn.before) old.actor node p now turn.legal.sound.latched within known (before_has kind old new history made answer Saw turn p holds)))
 
-    latch_again : (n by : ℕ) → answer ≡ reply.Again n by → (p : Holding) → IsHolding old p → IsHolding new p
+    latch_again : (n by : ℕ) → answer ≡ reply.Again n by → (p : Holding) → Holds old p → IsHolding new p
     latch_again n by again p holds =
-        stays_holding kind old new history made answer Saw turn p same.actor (is.refused (λ done. not_both n by answer again done)) holds
+        stays_has kind old new history made answer Saw turn p same.actor (is.refused (λ done. not_both n by answer again done)) holds
 
     -- the node that the actor holds is there
     latch_within : (p : Holding) → IsHolding old p → may_write (p.grips node) ≡ true → node < length turn.turn.before.grips
@@ -96,12 +96,12 @@ module _ {B : Type 0} (kind : BranchKind B) (old new : Holder) (history : Histor
         let has = before_holding kind old new history made answer Saw turn p holds in
         held_within turn.turn.before.grips old.actor node (λ free. not_free (p.grips node) may (sym (has.grips node) ∙ free))
 
-  module _ (turn : MadeTurn kind old new history (Claim node) answer Saw) (known : old.actor < ACTORS) (claims : (p : Holding) × IsHolding old p × (p.grips node ≡ grip.Free) × (node < p.told)) where
+  module _ (turn : MadeTurn kind old new history (Claim node) answer Saw) (known : old.actor < ACTORS) (claims : (p : Holding) × Holds old p × (p.grips node ≡ grip.Free) × (node < p.told)) where
     claim_step : IsAnswered (refused turn.turn.before) (claim_answer (refused turn.turn.before) old.actor node) (gripped (refused turn.turn.before) old.actor node grip.Claim) answer new.at
     claim_step = step_made kind old new history (Claim node) answer Saw turn
 
     claim_has : HasHolding (refused turn.turn.before) old.actor claims.0
-    claim_has = before_holding kind old new history (Claim node) answer Saw turn claims.0 claims.1
+    claim_has = before_has kind old new history (Claim node) answer Saw turn claims.0 claims.1
 
     -- the actor was told of no node that is not there
     claim_exists : node < length turn.turn.before.nodes
@@ -130,10 +130,10 @@ module _ {B : Type 0} (kind : BranchKind B) (old new : Holder) (history : Histor
     pub claim_answers : answer ≢ reply.Done → ((n b : ℕ) → answer ≢ reply.Again n b) → ⊥
     claim_answers = held_answers (claimant_of (grips_at turn.turn.before.grips node)) claim_is
 
-    pub claim_done : answer ≡ reply.Done → (p : Holding) → IsHolding old p → IsHolding new (with_grip p node grip.Claim)
+    pub claim_done : answer ≡ reply.Done → (p : Holding) → Holds old p → IsHolding new (with_grip p node grip.Claim)
     claim_done = latch_done (Claim node) turn (claim_answer (refused turn.turn.before) old.actor node) grip.Claim claim_step known claim_within
 
-    pub claim_again : (n by : ℕ) → answer ≡ reply.Again n by → (p : Holding) → IsHolding old p → IsHolding new p
+    pub claim_again : (n by : ℕ) → answer ≡ reply.Again n by → (p : Holding) → Holds old p → IsHolding new p
     claim_again = latch_again (Claim node) turn (claim_answer (refused turn.turn.before) old.actor node) grip.Claim claim_step
 
   module _ (turn : MadeTurn kind old new history (Lock node) answer Saw) (known : old.actor < ACTORS) (claimed : (p : Holding) × IsHolding old p × (p.grips node ≡ grip.Claim)) where
@@ -152,12 +152,13 @@ module _ {B : Type 0} (kind : BranchKind B) (old new : Holder) (history : Histor
     lock_answers = held_answers (first_reader_of (grips_at turn.turn.before.grips node)) lock_is
 
     pub lock_done : answer ≡ reply.Done → (p : Holding) → IsHolding old p → IsHolding new (with_grip p node grip.Write)
-    lock_done =
+    lock_done done p is =
         latch_done (Lock node) turn (lock_answer (refused turn.turn.before) old.actor node) grip.Write lock_step known
         (latch_within (Lock node) turn (lock_answer (refused turn.turn.before) old.actor node) grip.Write lock_step claimed.0 claimed.1 (ap may_write claimed.2))
+        done p is.has
 
     pub lock_again : (n by : ℕ) → answer ≡ reply.Again n by → (p : Holding) → IsHolding old p → IsHolding new p
-    lock_again = latch_again (Lock node) turn (lock_answer (refused turn.turn.before) old.actor node) grip.Write lock_step
+    lock_again n by again p is = latch_again (Lock node) turn (lock_answer (refused turn.turn.before) old.actor node) grip.Write lock_step n by again p is.has
 
   module _ (turn : MadeTurn kind old new history (Unlock node) answer Saw) (known : old.actor < ACTORS) (held : (p : Holding) × IsHolding old p × (may_write (p.grips node) ≡ true)) where
     unlock_step : IsAnswered (refused turn.turn.before) (unlock_answer (refused turn.turn.before) old.actor node) (gripped (refused turn.turn.before) old.actor node grip.Free) answer new.at
@@ -171,6 +172,7 @@ module _ {B : Type 0} (kind : BranchKind B) (old new : Holder) (history : Histor
         unlock_step.answer ∙ ap (λ (b : Bool). cond b reply.Done (reply.Unfit (state_of w old.actor))) mine
 
     pub unlock_done : answer ≡ reply.Done → (p : Holding) → IsHolding old p → IsHolding new (with_grip p node grip.Free)
-    unlock_done =
+    unlock_done done p is =
         latch_done (Unlock node) turn (unlock_answer (refused turn.turn.before) old.actor node) grip.Free unlock_step known
         (latch_within (Unlock node) turn (unlock_answer (refused turn.turn.before) old.actor node) grip.Free unlock_step held.0 held.1 held.2)
+        done p is.has

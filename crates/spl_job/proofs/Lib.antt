@@ -1,3 +1,6 @@
+pub mod Children
+pub mod Dues
+pub mod Flushes
 pub mod Granted
 pub mod Grants
 pub mod Hangs
@@ -9,3 +12,5 @@ pub mod Publishes
 pub mod Installs
 pub mod Merges
 pub mod Starts
+pub mod Raises
+pub mod Splits

@@ -26,7 +26,7 @@ use Rattle.spl_job.proofs.Holds.{before_has, now_holding, stays_has, within_acto
 abbrev pub told_at : Whole → ℕ → ℕ → Whole
 told_at whole actor node = record whole { actors = set whole.actors actor (told_of (actor_in whole.actors actor) node) }
 
-told_holding : (whole : Whole) (actor node : ℕ) (p : Holding) → actor < length whole.actors → HasHolding whole actor p → HasHolding (told_at whole actor node) actor (with_told p (max p.told (node + 1)))
+pub told_holding : (whole : Whole) (actor node : ℕ) (p : Holding) → actor < length whole.actors → HasHolding whole actor p → HasHolding (told_at whole actor node) actor (with_told p (max p.told (node + 1)))
 told_holding whole actor node p within has =
     let mine : actor_in (set whole.actors actor (told_of (actor_in whole.actors actor) node)) actor ≡ told_of (actor_in whole.actors actor) node = get_or-set_same whole.actors actor (told_of (actor_in whole.actors actor) node) idle within in
     record {

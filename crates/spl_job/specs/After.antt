@@ -2,6 +2,7 @@
 use Rattle.std.specs.Prelude.{◌≡◌, ℕ, [], ◌∷◌, Option, Some, Result, Ok}
 use Rattle.spl_base.specs.declared.NoMemory.{NoMemory}
 use Rattle.spl_state.specs.declared.job.Job.TheVariants.{Pack}
+use Rattle.spl_state.specs.declared.reply.Reply.{Reply}
 use Rattle.spl_state.specs.declared.reply.Reply.TheVariants as reply
 use Rattle.spl_core.specs.declared.step.Step.TheVariants.{Incorporate}
 use Rattle.spl_desk.specs.Calls.{HasNothing}
@@ -26,3 +27,13 @@ AfterHanging holder holding NeedsFlush = IsHolding holder holding
 -- the turn hung a branch at the root
 abbrev pub HangsBranch : {B : Type 0} → Turn B → Type 0
 HangsBranch turn = (turn.step ≡ Incorporate) × (turn.reply ≡ reply.Done)
+
+-- what hanging a branch at the root was answered
+abbrev pub IsHangAnswer : {B : Type 0} → Hanging → Reply B → Type 0
+IsHangAnswer Done answer = answer ≡ reply.Done
+IsHangAnswer (NotOldest by) answer = (oldest : ℕ) × (answer ≡ reply.NotOldest oldest by)
+IsHangAnswer NeedsFlush answer = answer ≡ reply.NeedsFlush
+
+-- the turn in which the branch was to be hung at the root
+abbrev pub IsHangTurn : {B : Type 0} → Hanging → Turn B → Type 0
+IsHangTurn result turn = (turn.step ≡ Incorporate) × IsHangAnswer result turn.reply

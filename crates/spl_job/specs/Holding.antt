@@ -59,6 +59,10 @@ pub record IsHolding (holder : Holder) (holding : Holding) : Type 0 where
   pub sound : IsSound holder.at
   pub has : Holds holder holding
 
+-- of how many nodes the holder's actor was told
+abbrev pub told_by : Holder → ℕ
+told_by holder = (actor_in holder.at.actors holder.actor).told
+
 -- the node is there: it is the root, or the actor was told of it
 abbrev pub IsKnown : Holding → ℕ → Type 0
 IsKnown holding node = (node ≡ 0) ⊎ (node < holding.told)

@@ -1,17 +1,21 @@
 -- What the steps of a merge leave of what an actor has.
-use Rattle.std.specs.Prelude.{◌≡◌, ℕ, ◌<◌, ◌≤◌, Bool, map, Option, Some, None, Result, Ok, Err}
+use Rattle.std.specs.Prelude.{◌≡◌, ◌≢◌, ℕ, ◌<◌, ◌≤◌, Bool, List, length, map, All, Option, Some, None, IsSome, IfSome, Result, Ok, Err}
 use Rattle.spl_base.specs.declared.NoMemory.{NoMemory}
 use Rattle.spl_message.specs.Table.{Table}
+use Rattle.spl_node.specs.declared.pivot.Pivot.{Pivot}
+use Rattle.spl_trunk.specs.Trunk.{node_at}
 use Rattle.spl_state.specs.declared.job.Job.TheVariants.{Merge}
 use Rattle.spl_state.specs.declared.job.Run.{Run}
 use Rattle.spl_state.specs.declared.reply.Reply.{Reply}
 use Rattle.spl_state.specs.declared.reply.Reply.TheVariants as reply
 use Rattle.spl_state.specs.declared.sight.Ticket.{Ticket}
 use Rattle.spl_state.specs.declared.view.View.{View}
+use Rattle.spl_state.specs.Sight.{split_key}
+use Rattle.spl_state.specs.Whole.{Whole, branches}
 use Rattle.spl_core.specs.declared.step.Step.TheVariants as step
 use Rattle.spl_desk.specs.Holder.{Holder}
 use Rattle.spl_desk.specs.Turn.{Turn}
-use Rattle.spl_job.specs.Holding.{Holding, IsHolding, with_job, without_job}
+use Rattle.spl_job.specs.Holding.{Holding, IsHolding, told_by, with_job, without_job}
 use Rattle.spl_job.specs.declared.merging.Started.{Started}
 use Rattle.spl_job.specs.declared.merging.Started.TheVariants as started
 use Rattle.spl_job.specs.declared.merging.Installed.{Installed}
@@ -63,6 +67,19 @@ AfterInstall holder holding (installed.Next node) = IsToldOf holder holding node
 AfterInstall holder holding installed.Done = IsHolding holder (without_job holding)
 AfterInstall holder holding (installed.Elsewhere None) = IsHolding holder holding
 AfterInstall holder holding (installed.Elsewhere (Some node)) = IsToldOf holder holding node
+
+-- the actor was told of each child in the view of the node, and none of them is the node itself
+abbrev pub NamesChildren : Holder → ℕ → View → Type 0
+NamesChildren holder node view =
+    All (λ (pivot : Pivot). IfSome pivot.child (λ child. (child < told_by holder) × (child ≢ node))) view.pivots
+
+-- a node above the leaves has pivots, and each of them has a child
+abbrev pub HasChildren : View → Type 0
+HasChildren view = 0 < view.height → (0 < length view.pivots) × All (λ (pivot : Pivot). IsSome pivot.child) view.pivots
+
+-- the key at which the node is to be split, where it is to be
+abbrev pub split_in : Whole → ℕ → Option (List ℕ)
+split_in whole node = split_key (branches whole) (node_at whole.nodes node)
 
 module _ {B : Type 0} where
   -- what each step was answered

@@ -18,7 +18,7 @@ ghost use Rattle.spl_desk.specs.Causes.{WasAnswered};
 ghost use Rattle.spl_desk.specs.Holder.{IsSameHolder, kind_of};
 ghost use Rattle.spl_desk.specs.Quiet.{IsQuiet, WasMade};
 ghost use Rattle.spl_job.specs.Holding.{Holding, Holds, IsHolding, IsKnown};
-ghost use Rattle.spl_job.specs.Merging.{AfterInstall, AfterStart, IsHoldingOn, IsInstallTurn, IsStartOf, IsStartTurn, IsSurveyTurn};
+ghost use Rattle.spl_job.specs.Merging.{AfterInstall, AfterStart, HasChildren, IsHoldingOn, IsInstallTurn, IsStartOf, IsStartTurn, IsSurveyTurn, NamesChildren, split_in};
 
 use spl_base::NoMemory;
 use spl_core::Step;
@@ -72,6 +72,13 @@ pub fn survey<B: Content, T: Turns<B>>(turns: &mut T, node: u32) -> Result<View,
     // Each bundle has the number behind that of the one before it.
     ensures numbered { IfOk result (λ view. (first : ℕ) × (list : List Bundle)
         × (view.bundles ≡ views_from first list)) }
+
+    // The actor was told of the children that the view names; only a leaf has none.
+    ensures children { IfOk result (NamesChildren (T.means turns.new) node) }
+    ensures inner { IfOk result HasChildren }
+
+    // The split key is the one that the node has now.
+    ensures split { IfOk result (λ view. view.split ≡ split_in (T.means turns.new).at node) }
 {
     let _ = turns.actor();
     match take_turn(turns, Step::Survey { node }) {

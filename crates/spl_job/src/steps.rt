@@ -11,8 +11,9 @@ ghost use Rattle.spl_desk.specs.Calls.{HasSeen, MayCall};
 ghost use Rattle.spl_desk.specs.Causes.{WasAnswered};
 ghost use Rattle.spl_desk.specs.Holder.{IsSameHolder, kind_of};
 ghost use Rattle.spl_desk.specs.Quiet.{IsQuiet, WasMade};
-ghost use Rattle.spl_job.specs.After.{AfterHanging, AfterPick, HangsBranch};
-ghost use Rattle.spl_job.specs.Holding.{Builds, Holding, IsBranchOf, IsHolding, after_grant, after_latch, after_publish};
+ghost use Rattle.spl_job.specs.After.{AfterHanging, AfterPick, IsHangTurn};
+ghost use Rattle.spl_job.specs.Holding.{Builds, Holding, Holds, IsBranchOf, IsHolding, after_grant, after_latch, after_publish};
+ghost use Rattle.spl_job.specs.Latching.{IsClaimTurn, IsLockTurn};
 
 use spl_base::NoMemory;
 use spl_core::Step;
@@ -116,14 +117,17 @@ pub fn claim<B: Content, T: Turns<B>>(turns: &mut T, node: u32) -> bool
     requires turns { (T.means turns.old).turns < 2 ^ 41 }
     requires ready { T.ready turns.old }
     requires seen { HasSeen (T.saw turns.old) }
-    requires holds { (holding : Holding) × IsHolding (T.means turns.old) holding
+    requires holds { (holding : Holding) × Holds (T.means turns.old) holding
         × (holding.grips node ≡ grip.Free) × (node < holding.told) }
     ensures same { IsSameHolder (T.means turns.old) (T.means turns.new) 1 }
     ensures ready { T.ready turns.new }
     ensures quiet { IsQuiet (kind_of B.number (branch_data B.extents B.entries B.cuts B.table) B.TELLS)
         (T.means turns.old) (T.saw turns.old) (T.means turns.new) (T.saw turns.new) }
-    ensures holds { (holding : Holding) → IsHolding (T.means turns.old) holding
+    ensures holds { (holding : Holding) → Holds (T.means turns.old) holding
         → IsHolding (T.means turns.new) (after_latch holding node result grip.Claim) }
+    ensures made { (history : History) → T.saw turns.old history → WasMade
+        (kind_of B.number (branch_data B.extents B.entries B.cuts B.table) B.TELLS)
+        (T.means turns.old) history (T.means turns.new) (T.saw turns.new) (IsClaimTurn node result) }
 {
     let _ = turns.actor();
     match take_turn(turns, Step::Claim { node }) {
@@ -146,6 +150,9 @@ pub fn lock<B: Content, T: Turns<B>>(turns: &mut T, node: u32) -> bool
         (T.means turns.old) (T.saw turns.old) (T.means turns.new) (T.saw turns.new) }
     ensures holds { (holding : Holding) → IsHolding (T.means turns.old) holding
         → IsHolding (T.means turns.new) (after_latch holding node result grip.Write) }
+    ensures made { (history : History) → T.saw turns.old history → WasMade
+        (kind_of B.number (branch_data B.extents B.entries B.cuts B.table) B.TELLS)
+        (T.means turns.old) history (T.means turns.new) (T.saw turns.new) (IsLockTurn node result) }
 {
     let _ = turns.actor();
     match take_turn(turns, Step::Lock { node }) {
@@ -190,9 +197,9 @@ pub fn incorporate<B: Content, T: Turns<B>>(turns: &mut T) -> Hanging
         (T.means turns.old) (T.saw turns.old) (T.means turns.new) (T.saw turns.new) }
     ensures holds { (holding : Holding) → IsHolding (T.means turns.old) holding → holding.published ≡ true
         → AfterHanging (T.means turns.new) holding result }
-    ensures made { result ≡ Hanging.Done → (history : History) → T.saw turns.old history
-        → WasMade (kind_of B.number (branch_data B.extents B.entries B.cuts B.table) B.TELLS)
-        (T.means turns.old) history (T.means turns.new) (T.saw turns.new) HangsBranch }
+    ensures made { (history : History) → T.saw turns.old history → WasMade
+        (kind_of B.number (branch_data B.extents B.entries B.cuts B.table) B.TELLS)
+        (T.means turns.old) history (T.means turns.new) (T.saw turns.new) (IsHangTurn result) }
 {
     let _ = turns.actor();
     match take_turn(turns, Step::Incorporate) {

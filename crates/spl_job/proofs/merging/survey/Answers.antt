@@ -7,6 +7,7 @@ use Rattle.spl_core.specs.declared.step.Step.TheVariants.{Survey}
 use Rattle.spl_desk.specs.Holder.{kind_of}
 use Rattle.spl_desk.proofs.Quiet.{answered_step, made_step, quiet_step}
 use Rattle.spl_job.specs.Merging.{IsSurveyTurn}
+use Rattle.spl_job.proofs.Children.{survey_children, survey_inner, survey_split}
 use Rattle.spl_job.proofs.Merges.{survey_answers, survey_memory, survey_numbered, survey_shown}
 use Rattle.spl_job.proofs.merging.survey.Goals as goal
 
@@ -49,6 +50,36 @@ returns-in-View-clause-numbered g c =
     let made = c.take_turn.ensures in
     let seen = c.requires.seen in
     survey_numbered kind old new seen.0 c.take_turn.result saw made.same c.args.node (made.turn seen.0 seen.1) c.in-View.view c.in-View.is
+
+pub returns-in-View-clause-children : goal.returns-in-View-clause-children
+returns-in-View-clause-children g c =
+    let kind = kind_of g.B.Content.number (branch_data g.B.Content.extents g.B.Content.entries g.B.Content.cuts g.B.Content.table) g.B.Content.TELLS in
+    let old = g.T.Turns.means c.args.turns.now in
+    let new = g.T.Turns.means c.take_turn.new.turns in
+    let saw = g.T.Turns.saw c.take_turn.new.turns in
+    let made = c.take_turn.ensures in
+    let seen = c.requires.seen in
+    survey_children kind old new seen.0 c.take_turn.result saw made.same c.args.node (made.turn seen.0 seen.1) (subst (λ (n : ℕ). n < ACTORS) c.actor.ensures.value c.actor.ensures.known) c.requires.holds c.in-View.view c.in-View.is
+
+pub returns-in-View-clause-inner : goal.returns-in-View-clause-inner
+returns-in-View-clause-inner g c =
+    let kind = kind_of g.B.Content.number (branch_data g.B.Content.extents g.B.Content.entries g.B.Content.cuts g.B.Content.table) g.B.Content.TELLS in
+    let old = g.T.Turns.means c.args.turns.now in
+    let new = g.T.Turns.means c.take_turn.new.turns in
+    let saw = g.T.Turns.saw c.take_turn.new.turns in
+    let made = c.take_turn.ensures in
+    let seen = c.requires.seen in
+    survey_inner kind old new seen.0 c.take_turn.result saw made.same c.args.node (made.turn seen.0 seen.1) (subst (λ (n : ℕ). n < ACTORS) c.actor.ensures.value c.actor.ensures.known) c.requires.holds c.in-View.view c.in-View.is
+
+pub returns-in-View-clause-split : goal.returns-in-View-clause-split
+returns-in-View-clause-split g c =
+    let kind = kind_of g.B.Content.number (branch_data g.B.Content.extents g.B.Content.entries g.B.Content.cuts g.B.Content.table) g.B.Content.TELLS in
+    let old = g.T.Turns.means c.args.turns.now in
+    let new = g.T.Turns.means c.take_turn.new.turns in
+    let saw = g.T.Turns.saw c.take_turn.new.turns in
+    let made = c.take_turn.ensures in
+    let seen = c.requires.seen in
+    survey_split kind old new seen.0 c.take_turn.result saw made.same c.args.node (made.turn seen.0 seen.1) (subst (λ (n : ℕ). n < ACTORS) c.actor.ensures.value c.actor.ensures.known) c.requires.holds c.in-View.view c.in-View.is
 
 pub returns-in-View-clause-made : goal.returns-in-View-clause-made
 returns-in-View-clause-made g c =

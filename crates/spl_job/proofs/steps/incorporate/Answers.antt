@@ -4,7 +4,8 @@ use Rattle.spl_state.specs.View.{branch_data}
 use Rattle.spl_core.specs.declared.step.Step.TheVariants.{Incorporate}
 use Rattle.spl_desk.specs.Holder.{kind_of}
 use Rattle.spl_desk.proofs.Quiet.{made_step, quiet_step}
-use Rattle.spl_job.specs.After.{HangsBranch}
+use Rattle.spl_job.specs.After.{IsHangTurn}
+use Rattle.spl_job.specs.declared.steps.Hanging.TheVariants as hanging
 use Rattle.spl_job.proofs.Hangs.{hang_answers, hang_done, hang_full, hang_older}
 use Rattle.spl_job.proofs.steps.incorporate.Goals as goal
 
@@ -34,9 +35,29 @@ returns-in-Done-clause-made g c =
     let old = g.T.Turns.means c.args.turns.now in
     let new = g.T.Turns.means c.take_turn.new.turns in
     let saw = g.T.Turns.saw c.take_turn.new.turns in
-    λ done history had.
+    λ history had.
     let turn = c.take_turn.ensures.turn history had in
-    made_step kind old new history Incorporate c.take_turn.result saw HangsBranch refl turn (turn.step, turn.reply ∙ c.in-Done.is)
+    made_step kind old new history Incorporate c.take_turn.result saw (IsHangTurn hanging.Done) refl turn (turn.step, turn.reply ∙ c.in-Done.is)
+
+pub returns-in-NotOldest-clause-made : goal.returns-in-NotOldest-clause-made
+returns-in-NotOldest-clause-made g c =
+    let kind = kind_of g.B.Content.number (branch_data g.B.Content.extents g.B.Content.entries g.B.Content.cuts g.B.Content.table) g.B.Content.TELLS in
+    let old = g.T.Turns.means c.args.turns.now in
+    let new = g.T.Turns.means c.take_turn.new.turns in
+    let saw = g.T.Turns.saw c.take_turn.new.turns in
+    λ history had.
+    let turn = c.take_turn.ensures.turn history had in
+    made_step kind old new history Incorporate c.take_turn.result saw (IsHangTurn (hanging.NotOldest c.in-NotOldest.by)) refl turn (turn.step, (c.in-NotOldest.oldest, turn.reply ∙ c.in-NotOldest.is))
+
+pub returns-in-NeedsFlush-clause-made : goal.returns-in-NeedsFlush-clause-made
+returns-in-NeedsFlush-clause-made g c =
+    let kind = kind_of g.B.Content.number (branch_data g.B.Content.extents g.B.Content.entries g.B.Content.cuts g.B.Content.table) g.B.Content.TELLS in
+    let old = g.T.Turns.means c.args.turns.now in
+    let new = g.T.Turns.means c.take_turn.new.turns in
+    let saw = g.T.Turns.saw c.take_turn.new.turns in
+    λ history had.
+    let turn = c.take_turn.ensures.turn history had in
+    made_step kind old new history Incorporate c.take_turn.result saw (IsHangTurn hanging.NeedsFlush) refl turn (turn.step, turn.reply ∙ c.in-NeedsFlush.is)
 
 pub returns-in-NotOldest-clause-holds : goal.returns-in-NotOldest-clause-holds
 returns-in-NotOldest-clause-holds g c =

@@ -19,4 +19,4 @@ claim-requires-clause-holds g c =
     let sound : IsSound new.at = answered_sound _ _ _ _ _ (λ answer. answer ≡ reply.Nothing) (c.pick.ensures.nothing none seen.0 seen.1) in
     let nothing : MayCall new = subst (λ r. AfterPick new r) none c.pick.ensures.picked in
     let held = nothing_held new sound nothing in
-    (held.0, held.1, held.4 0, root_told new held.0 held.1 (omega arith))
+    (held.0, held.1.has, held.4 0, root_told new held.0 held.1 (omega arith))
