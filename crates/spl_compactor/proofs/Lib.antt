@@ -1,4 +1,5 @@
 pub mod Begins
+pub mod Ends
 pub mod Fresh
 pub mod Merges
 pub mod Places

@@ -1,9 +1,9 @@
-ghost use Rattle.std.specs.Prelude.{◌≡◌, ◌<◌, ◌≤◌, ◌^◌, ℕ, Ok, IfErr, IfOk, OnErr, OnOk};
-ghost use Rattle.spl_message.specs.History.{History};
+ghost use Rattle.std.specs.Prelude.{◌≡◌, ◌<◌, ◌≤◌, ◌^◌, ℕ, IfErr, IfOk, OnErr, OnOk};
 ghost use Rattle.spl_desk.specs.Branches.{branch_kind};
 ghost use Rattle.spl_desk.specs.Calls.{HasSeen, MadeFew, MayCall, NeverFell};
-ghost use Rattle.spl_desk.specs.Quiet.{HasWorkCause, IsQuiet, WasMade};
-ghost use Rattle.spl_compactor.specs.Compacting.{AfterWork, IsEnd, IsStarted, told_by};
+ghost use Rattle.spl_desk.specs.Quiet.{HasWorkCause, IsQuiet};
+ghost use Rattle.spl_compactor.specs.Compacting.{AfterWork, IsStarted, told_by};
+ghost use Rattle.spl_compactor.specs.Outcomes.{WasAskedFor, WasCompacted, WasEnded};
 
 use crate::Compacted;
 use crate::merging::{merge, publish_output};
@@ -39,9 +39,8 @@ fn work<T: Turns<Branch<P::Seal>>, P: Port, G: Pager, L: MergeLaw>(
     ensures port { NeverFell (P.counts desk.old.port.now) (P.counts desk.new.port.now) }
     ensures worked { (least : ℕ) → ticket.now.node < least → IsStarted (T.means desk.old.turns) least ticket.now
         → IfOk result (AfterWork (T.means desk.new.turns) least) }
-    ensures done { result ≡ Ok Compacted.Done → (history : History) → T.saw desk.old.turns history
-        → WasMade (branch_kind P.Seal.TELLS) (T.means desk.old.turns) history
-        (T.means desk.new.turns) (T.saw desk.new.turns) IsEnd }
+    ensures made { IfOk result (WasEnded (branch_kind P.Seal.TELLS) (T.means desk.old.turns)
+        (T.saw desk.old.turns) (T.means desk.new.turns) (T.saw desk.new.turns)) }
     ensures cause { IfErr result (HasWorkCause (branch_kind P.Seal.TELLS) (T.means desk.old.turns)
         (T.saw desk.old.turns) (T.means desk.new.turns) (T.saw desk.new.turns)
         (P.counts desk.old.port.now) (P.counts desk.new.port.now)) }
@@ -75,9 +74,10 @@ fn inner<T: Turns<Branch<P::Seal>>, P: Port, G: Pager, L: MergeLaw>(
     ensures device { desk.new.port.ghost_name ≡ desk.old.port.ghost_name }
     ensures port { NeverFell (P.counts desk.old.port.now) (P.counts desk.new.port.now) }
     ensures worked { IfOk result (AfterWork (T.means desk.new.turns) (told_by (T.means desk.old.turns))) }
-    ensures done { result ≡ Ok Compacted.Done → (history : History) → T.saw desk.old.turns history
-        → WasMade (branch_kind P.Seal.TELLS) (T.means desk.old.turns) history
-        (T.means desk.new.turns) (T.saw desk.new.turns) IsEnd }
+    ensures asked { OnOk result (WasAskedFor (branch_kind P.Seal.TELLS) (T.means desk.old.turns)
+        (T.saw desk.old.turns) (T.means desk.new.turns) (T.saw desk.new.turns) node first last) }
+    ensures made { IfOk result (WasCompacted (branch_kind P.Seal.TELLS) (T.means desk.old.turns)
+        (T.saw desk.old.turns) (T.means desk.new.turns) (T.saw desk.new.turns) node first last) }
     ensures cause { IfErr result (HasWorkCause (branch_kind P.Seal.TELLS) (T.means desk.old.turns)
         (T.saw desk.old.turns) (T.means desk.new.turns) (T.saw desk.new.turns)
         (P.counts desk.old.port.now) (P.counts desk.new.port.now)) }
@@ -116,9 +116,10 @@ fn attempt<T: Turns<Branch<P::Seal>>, P: Port, G: Pager, L: MergeLaw>(
     ensures pager { desk.new.pager.now ≡ desk.old.pager.now }
     ensures device { desk.new.port.ghost_name ≡ desk.old.port.ghost_name }
     ensures port { NeverFell (P.counts desk.old.port.now) (P.counts desk.new.port.now) }
-    ensures done { result ≡ Ok Compacted.Done → (history : History) → T.saw desk.old.turns history
-        → WasMade (branch_kind P.Seal.TELLS) (T.means desk.old.turns) history
-        (T.means desk.new.turns) (T.saw desk.new.turns) IsEnd }
+    ensures asked { OnOk result (WasAskedFor (branch_kind P.Seal.TELLS) (T.means desk.old.turns)
+        (T.saw desk.old.turns) (T.means desk.new.turns) (T.saw desk.new.turns) node first last) }
+    ensures made { IfOk result (WasCompacted (branch_kind P.Seal.TELLS) (T.means desk.old.turns)
+        (T.saw desk.old.turns) (T.means desk.new.turns) (T.saw desk.new.turns) node first last) }
     ensures cause { IfErr result (HasWorkCause (branch_kind P.Seal.TELLS) (T.means desk.old.turns)
         (T.saw desk.old.turns) (T.means desk.new.turns) (T.saw desk.new.turns)
         (P.counts desk.old.port.now) (P.counts desk.new.port.now)) }
@@ -161,10 +162,12 @@ pub fn compact<T: Turns<Branch<P::Seal>>, P: Port, G: Pager, L: MergeLaw>(
     ensures device { desk.new.port.ghost_name ≡ desk.old.port.ghost_name }
     ensures port { NeverFell (P.counts desk.old.port.now) (P.counts desk.new.port.now) }
 
-    // The last node that had the run was served in this call.
-    ensures done { result ≡ Ok Compacted.Done → (history : History) → T.saw desk.old.turns history
-        → WasMade (branch_kind P.Seal.TELLS) (T.means desk.old.turns) history
-        (T.means desk.new.turns) (T.saw desk.new.turns) IsEnd }
+    // A turn of this call asked for this run; and one served the last node that had the run, or found no node with it, or
+    // refused it.
+    ensures asked { OnOk result (WasAskedFor (branch_kind P.Seal.TELLS) (T.means desk.old.turns)
+        (T.saw desk.old.turns) (T.means desk.new.turns) (T.saw desk.new.turns) node first last) }
+    ensures made { IfOk result (WasCompacted (branch_kind P.Seal.TELLS) (T.means desk.old.turns)
+        (T.saw desk.old.turns) (T.means desk.new.turns) (T.saw desk.new.turns) node first last) }
     ensures cause { IfErr result (HasWorkCause (branch_kind P.Seal.TELLS) (T.means desk.old.turns)
         (T.saw desk.old.turns) (T.means desk.new.turns) (T.saw desk.new.turns)
         (P.counts desk.old.port.now) (P.counts desk.new.port.now)) }

@@ -1,15 +1,15 @@
 //! How what was merged comes to the place of its run.
-ghost use Rattle.std.specs.Prelude.{◌≡◌, ℕ, ◌<◌, ◌^◌, true, Ok, IfErr, IfOk, OnOk};
-ghost use Rattle.spl_message.specs.History.{History};
+ghost use Rattle.std.specs.Prelude.{◌≡◌, ℕ, ◌<◌, ◌^◌, true, IfErr, IfOk, IfSome, OnOk};
 ghost use Rattle.spl_holds.specs.declared.grip.Grip.TheVariants as grip;
 ghost use Rattle.spl_holds.specs.Grip.{may_write};
 ghost use Rattle.spl_state.specs.View.{branch_data};
 ghost use Rattle.spl_desk.specs.Calls.{HasSeen, MadeFew};
 ghost use Rattle.spl_desk.specs.Holder.{kind_of};
-ghost use Rattle.spl_desk.specs.Quiet.{IsQuiet, WasMade};
+ghost use Rattle.spl_desk.specs.Quiet.{IsQuiet};
 ghost use Rattle.spl_job.specs.Holding.{Holding, IsHolding, with_grip};
 ghost use Rattle.spl_enter.specs.Turning.{HasTurnCause};
-ghost use Rattle.spl_compactor.specs.Compacting.{AfterPlace, AfterWork, IsEnd, IsToPlace, no_grip, write_on};
+ghost use Rattle.spl_compactor.specs.Compacting.{AfterPlace, AfterWork, IsToPlace, no_grip, write_on};
+ghost use Rattle.spl_compactor.specs.Outcomes.{WasEnded, ends};
 
 use crate::Compacted;
 use spl_desk::{CallFault, Turns};
@@ -66,9 +66,9 @@ fn place_in<B: Content, T: Turns<B>>(
     ensures ready { T.ready turns.new }
     ensures placed { (least : ℕ) → IsToPlace B.TELLS (T.means turns.old) least output (write_on node)
         → IfOk result (AfterPlace B.TELLS (T.means turns.new) least output) }
-    ensures done { result ≡ Ok Placed.Done → (history : History) → T.saw turns.old history → WasMade
+    ensures made { IfOk result (λ placed. IfSome (ends placed) (WasEnded
         (kind_of B.number (branch_data B.extents B.entries B.cuts B.table) B.TELLS)
-        (T.means turns.old) history (T.means turns.new) (T.saw turns.new) IsEnd }
+        (T.means turns.old) (T.saw turns.old) (T.means turns.new) (T.saw turns.new))) }
     ensures left { OnOk result ((T.means turns.old).turns < (T.means turns.new).turns) }
     ensures cause { IfErr result (HasTurnCause (T.means turns.new)) }
 {
@@ -107,9 +107,9 @@ fn place_once<B: Content, T: Turns<B>>(
     ensures ready { T.ready turns.new }
     ensures placed { (least : ℕ) → node < least → IsToPlace B.TELLS (T.means turns.old) least output no_grip
         → IfOk result (AfterPlace B.TELLS (T.means turns.new) least output) }
-    ensures done { result ≡ Ok Placed.Done → (history : History) → T.saw turns.old history → WasMade
+    ensures made { IfOk result (λ placed. IfSome (ends placed) (WasEnded
         (kind_of B.number (branch_data B.extents B.entries B.cuts B.table) B.TELLS)
-        (T.means turns.old) history (T.means turns.new) (T.saw turns.new) IsEnd }
+        (T.means turns.old) (T.saw turns.old) (T.means turns.new) (T.saw turns.new))) }
     ensures left { OnOk result ((T.means turns.old).turns < (T.means turns.new).turns) }
     ensures cause { IfErr result (HasTurnCause (T.means turns.new)) }
 {
@@ -136,9 +136,9 @@ pub(crate) fn place<B: Content, T: Turns<B>>(
     ensures ready { T.ready turns.new }
     ensures placed { (least : ℕ) → node < least → IsToPlace B.TELLS (T.means turns.old) least output no_grip
         → IfOk result (AfterWork (T.means turns.new) least) }
-    ensures done { result ≡ Ok Compacted.Done → (history : History) → T.saw turns.old history → WasMade
+    ensures made { IfOk result (WasEnded
         (kind_of B.number (branch_data B.extents B.entries B.cuts B.table) B.TELLS)
-        (T.means turns.old) history (T.means turns.new) (T.saw turns.new) IsEnd }
+        (T.means turns.old) (T.saw turns.old) (T.means turns.new) (T.saw turns.new)) }
     ensures left { OnOk result ((T.means turns.old).turns < (T.means turns.new).turns) }
     ensures cause { IfErr result (HasTurnCause (T.means turns.new)) }
 {

@@ -29,7 +29,3 @@ pack_of_hang holder (Err _) after = after
 -- with a picked memtable there was one
 pub hang_not_nothing : (holder : Holder) (r : Result Packed CallFault) → AfterHang holder r → r ≡ Ok Nothing → ⊥
 hang_not_nothing holder r after is = subst (λ (x : Result Packed CallFault). AfterHang holder x) is after
-
--- the packed of an answer
-pub done_of_ok : (packed : Packed) → ◌≡◌ {A = Result Packed CallFault} (Ok packed) (Ok Done) → packed ≡ Done
-done_of_ok packed is = cc

@@ -1,15 +1,14 @@
 //! How a published branch comes to hang at the root.
-ghost use Rattle.std.specs.Prelude.{◌≡◌, ◌<◌, ◌^◌, true, Ok, Some, IfErr, OnOk};
-ghost use Rattle.spl_message.specs.History.{History};
+ghost use Rattle.std.specs.Prelude.{◌≡◌, ◌<◌, ◌^◌, true, IfErr, IfOk, IfSome, OnOk};
 ghost use Rattle.spl_state.specs.View.{branch_data};
 ghost use Rattle.spl_holds.specs.declared.grip.Grip.TheVariants as grip;
 ghost use Rattle.spl_holds.specs.Grip.{may_write};
 ghost use Rattle.spl_desk.specs.Calls.{HasSeen, MadeFew};
 ghost use Rattle.spl_desk.specs.Holder.{kind_of};
-ghost use Rattle.spl_desk.specs.Quiet.{IsQuiet, WasMade};
+ghost use Rattle.spl_desk.specs.Quiet.{IsQuiet};
 ghost use Rattle.spl_enter.specs.Turning.{HasTurnCause};
-ghost use Rattle.spl_job.specs.After.{HangsBranch};
 ghost use Rattle.spl_job.specs.Holding.{Holding, IsHolding, with_grip};
+ghost use Rattle.spl_packer.specs.Outcomes.{WasPacked};
 ghost use Rattle.spl_packer.specs.Packs.{AfterHang, AfterTry, IsToHang};
 
 use crate::Packed;
@@ -52,9 +51,9 @@ fn hang_in_root<B: Content, T: Turns<B>>(turns: &mut T) -> Result<Option<Packed>
     ensures few { MadeFew (T.means turns.old) (T.means turns.new) 0 }
     ensures ready { T.ready turns.new }
     ensures tried { AfterTry (T.means turns.new) result }
-    ensures made { result ≡ Ok (Some Packed.Done) → (history : History) → T.saw turns.old history
-        → WasMade (kind_of B.number (branch_data B.extents B.entries B.cuts B.table) B.TELLS)
-        (T.means turns.old) history (T.means turns.new) (T.saw turns.new) HangsBranch }
+    ensures made { IfOk result (λ tried. IfSome tried (WasPacked
+        (kind_of B.number (branch_data B.extents B.entries B.cuts B.table) B.TELLS)
+        (T.means turns.old) (T.saw turns.old) (T.means turns.new) (T.saw turns.new))) }
     ensures left { OnOk result ((T.means turns.old).turns < (T.means turns.new).turns) }
     ensures cause { IfErr result (HasTurnCause (T.means turns.new)) }
 {
@@ -84,9 +83,9 @@ fn hang_once<B: Content, T: Turns<B>>(turns: &mut T) -> Result<Option<Packed>, C
     ensures few { MadeFew (T.means turns.old) (T.means turns.new) 0 }
     ensures ready { T.ready turns.new }
     ensures tried { AfterTry (T.means turns.new) result }
-    ensures made { result ≡ Ok (Some Packed.Done) → (history : History) → T.saw turns.old history
-        → WasMade (kind_of B.number (branch_data B.extents B.entries B.cuts B.table) B.TELLS)
-        (T.means turns.old) history (T.means turns.new) (T.saw turns.new) HangsBranch }
+    ensures made { IfOk result (λ tried. IfSome tried (WasPacked
+        (kind_of B.number (branch_data B.extents B.entries B.cuts B.table) B.TELLS)
+        (T.means turns.old) (T.saw turns.old) (T.means turns.new) (T.saw turns.new))) }
     ensures left { OnOk result ((T.means turns.old).turns < (T.means turns.new).turns) }
     ensures cause { IfErr result (HasTurnCause (T.means turns.new)) }
 {
@@ -109,9 +108,9 @@ pub(crate) fn hang<B: Content, T: Turns<B>>(turns: &mut T) -> Result<Packed, Cal
     ensures few { MadeFew (T.means turns.old) (T.means turns.new) 0 }
     ensures ready { T.ready turns.new }
     ensures hung { AfterHang (T.means turns.new) result }
-    ensures made { result ≡ Ok Packed.Done → (history : History) → T.saw turns.old history
-        → WasMade (kind_of B.number (branch_data B.extents B.entries B.cuts B.table) B.TELLS)
-        (T.means turns.old) history (T.means turns.new) (T.saw turns.new) HangsBranch }
+    ensures made { IfOk result (WasPacked
+        (kind_of B.number (branch_data B.extents B.entries B.cuts B.table) B.TELLS)
+        (T.means turns.old) (T.saw turns.old) (T.means turns.new) (T.saw turns.new)) }
     ensures left { OnOk result ((T.means turns.old).turns < (T.means turns.new).turns) }
     ensures cause { IfErr result (HasTurnCause (T.means turns.new)) }
 {

@@ -1,17 +1,15 @@
-ghost use Rattle.std.specs.Prelude.{◌≡◌, ◌<◌, ◌≤◌, ◌^◌, [], false, Ok, IfErr, IfOk, OnErr, OnOk};
+ghost use Rattle.std.specs.Prelude.{◌≡◌, ◌<◌, ◌≤◌, ◌^◌, [], false, true, IfErr, IfOk, OnErr, OnOk};
 ghost use Rattle.spl_message.specs.History.{History};
 ghost use Rattle.spl_holds.specs.declared.grip.Grip.TheVariants.{Free};
 ghost use Rattle.spl_state.specs.View.{branch_data};
-ghost use Rattle.spl_state.specs.declared.reply.Reply.TheVariants.{Nothing};
 ghost use Rattle.spl_desk.specs.Branches.{branch_kind};
 ghost use Rattle.spl_desk.specs.Calls.{HasSeen, MadeFew, MayCall, NeverFell};
-ghost use Rattle.spl_desk.specs.Causes.{WasAnswered};
 ghost use Rattle.spl_desk.specs.Holder.{kind_of};
 ghost use Rattle.spl_desk.specs.Quiet.{HasWorkCause, IsQuiet, WasMade};
 ghost use Rattle.spl_enter.specs.Turning.{HasTurnCause};
-ghost use Rattle.spl_job.specs.After.{HangsBranch};
 ghost use Rattle.spl_job.specs.Holding.{Holding, IsHolding};
 ghost use Rattle.spl_job.specs.Merging.{IsHoldingOn};
+ghost use Rattle.spl_packer.specs.Outcomes.{ShowsFull, WasPacked};
 ghost use Rattle.spl_packer.specs.Packs.{AfterHang, AfterPack, HasPicked, is_over};
 
 use crate::Packed;
@@ -42,6 +40,9 @@ fn is_root_full<B: Content, T: Turns<B>>(turns: &mut T) -> Result<bool, CallFaul
     ensures ready { T.ready turns.new }
     ensures holds { (holding : Holding) → IsHolding (T.means turns.old) holding
         → OnOk result (IsHoldingOn (T.means turns.new) holding) }
+    ensures full { IfOk result (λ full. full ≡ true → (history : History) → T.saw turns.old history → WasMade
+        (kind_of B.number (branch_data B.extents B.entries B.cuts B.table) B.TELLS)
+        (T.means turns.old) history (T.means turns.new) (T.saw turns.new) ShowsFull) }
     ensures left { OnOk result ((T.means turns.old).turns < (T.means turns.new).turns) }
     ensures cause { IfErr result (HasTurnCause (T.means turns.new)) }
 {
@@ -69,8 +70,8 @@ fn pack_picked<T: Turns<Branch<P::Seal>>, P: Port, G: Pager, L: MergeLaw>(
     ensures device { desk.new.port.ghost_name ≡ desk.old.port.ghost_name }
     ensures port { NeverFell (P.counts desk.old.port.now) (P.counts desk.new.port.now) }
     ensures hung { AfterHang (T.means desk.new.turns) result }
-    ensures done { result ≡ Ok Packed.Done → (history : History) → T.saw desk.old.turns history
-        → WasMade (branch_kind P.Seal.TELLS) (T.means desk.old.turns) history (T.means desk.new.turns) (T.saw desk.new.turns) HangsBranch }
+    ensures made { IfOk result (WasPacked (branch_kind P.Seal.TELLS)
+        (T.means desk.old.turns) (T.saw desk.old.turns) (T.means desk.new.turns) (T.saw desk.new.turns)) }
     ensures cause { IfErr result (HasWorkCause (branch_kind P.Seal.TELLS)
         (T.means desk.old.turns) (T.saw desk.old.turns) (T.means desk.new.turns) (T.saw desk.new.turns)
         (P.counts desk.old.port.now) (P.counts desk.new.port.now)) }
@@ -102,11 +103,8 @@ fn pack_oldest<T: Turns<Branch<P::Seal>>, P: Port, G: Pager, L: MergeLaw>(
     ensures device { desk.new.port.ghost_name ≡ desk.old.port.ghost_name }
     ensures port { NeverFell (P.counts desk.old.port.now) (P.counts desk.new.port.now) }
     ensures packed { AfterPack (T.means desk.new.turns) result }
-    ensures done { result ≡ Ok Packed.Done → (history : History) → T.saw desk.old.turns history
-        → WasMade (branch_kind P.Seal.TELLS) (T.means desk.old.turns) history (T.means desk.new.turns) (T.saw desk.new.turns) HangsBranch }
-    ensures nothing_there { result ≡ Ok Packed.Nothing → (history : History) → T.saw desk.old.turns history
-        → WasAnswered (branch_kind P.Seal.TELLS) (T.means desk.old.turns) history (T.means desk.new.turns) (T.saw desk.new.turns)
-        (λ answer. answer ≡ Nothing) }
+    ensures made { IfOk result (WasPacked (branch_kind P.Seal.TELLS)
+        (T.means desk.old.turns) (T.saw desk.old.turns) (T.means desk.new.turns) (T.saw desk.new.turns)) }
     ensures cause { IfErr result (HasWorkCause (branch_kind P.Seal.TELLS)
         (T.means desk.old.turns) (T.saw desk.old.turns) (T.means desk.new.turns) (T.saw desk.new.turns)
         (P.counts desk.old.port.now) (P.counts desk.new.port.now)) }
@@ -144,11 +142,8 @@ fn pack_or_stop<T: Turns<Branch<P::Seal>>, P: Port, G: Pager, L: MergeLaw>(
     ensures device { desk.new.port.ghost_name ≡ desk.old.port.ghost_name }
     ensures port { NeverFell (P.counts desk.old.port.now) (P.counts desk.new.port.now) }
     ensures packed { AfterPack (T.means desk.new.turns) result }
-    ensures done { result ≡ Ok Packed.Done → (history : History) → T.saw desk.old.turns history
-        → WasMade (branch_kind P.Seal.TELLS) (T.means desk.old.turns) history (T.means desk.new.turns) (T.saw desk.new.turns) HangsBranch }
-    ensures nothing_there { result ≡ Ok Packed.Nothing → (history : History) → T.saw desk.old.turns history
-        → WasAnswered (branch_kind P.Seal.TELLS) (T.means desk.old.turns) history (T.means desk.new.turns) (T.saw desk.new.turns)
-        (λ answer. answer ≡ Nothing) }
+    ensures made { IfOk result (WasPacked (branch_kind P.Seal.TELLS)
+        (T.means desk.old.turns) (T.saw desk.old.turns) (T.means desk.new.turns) (T.saw desk.new.turns)) }
     ensures cause { IfErr result (HasWorkCause (branch_kind P.Seal.TELLS)
         (T.means desk.old.turns) (T.saw desk.old.turns) (T.means desk.new.turns) (T.saw desk.new.turns)
         (P.counts desk.old.port.now) (P.counts desk.new.port.now)) }
@@ -180,11 +175,10 @@ pub fn pack<T: Turns<Branch<P::Seal>>, P: Port, G: Pager, L: MergeLaw>(
     ensures pager { desk.new.pager.now ≡ desk.old.pager.now }
     ensures device { desk.new.port.ghost_name ≡ desk.old.port.ghost_name }
     ensures port { NeverFell (P.counts desk.old.port.now) (P.counts desk.new.port.now) }
-    ensures done { result ≡ Ok Packed.Done → (history : History) → T.saw desk.old.turns history
-        → WasMade (branch_kind P.Seal.TELLS) (T.means desk.old.turns) history (T.means desk.new.turns) (T.saw desk.new.turns) HangsBranch }
-    ensures nothing_there { result ≡ Ok Packed.Nothing → (history : History) → T.saw desk.old.turns history
-        → WasAnswered (branch_kind P.Seal.TELLS) (T.means desk.old.turns) history (T.means desk.new.turns) (T.saw desk.new.turns)
-        (λ answer. answer ≡ Nothing) }
+
+    // A turn of this call shows it.
+    ensures made { IfOk result (WasPacked (branch_kind P.Seal.TELLS)
+        (T.means desk.old.turns) (T.saw desk.old.turns) (T.means desk.new.turns) (T.saw desk.new.turns)) }
     ensures cause { IfErr result (HasWorkCause (branch_kind P.Seal.TELLS)
         (T.means desk.old.turns) (T.saw desk.old.turns) (T.means desk.new.turns) (T.saw desk.new.turns)
         (P.counts desk.old.port.now) (P.counts desk.new.port.now)) }

@@ -2,14 +2,17 @@ use Rattle.std.proofs.Common.{◌≡◌, refl, subst, inr}
 use Rattle.std.specs.Prelude.{Ok}
 use Rattle.spl_branch.specs.Branch.{Branch, table_of}
 use Rattle.spl_desk.specs.Branches.{branch_kind}
-use Rattle.spl_desk.proofs.Quiet.{counts_same, made_behind, quiet_then}
+use Rattle.spl_desk.proofs.Quiet.{counts_same, quiet_then}
 use Rattle.spl_job.specs.declared.merging.Started.{Started}
 use Rattle.spl_job.specs.declared.merging.Started.TheVariants as started
 use Rattle.spl_job.proofs.Nothing.{nothing_holds}
-use Rattle.spl_job.specs.Merging.{AfterStart}
-use Rattle.spl_compactor.specs.Compacting.{IsEnd, told_by}
+use Rattle.spl_job.specs.Merging.{AfterStart, IsStartTurn}
+use Rattle.spl_compactor.specs.Compacting.{told_by}
+use Rattle.spl_compactor.specs.declared.compacted.Compacted.TheVariants as compacted
+use Rattle.spl_compactor.specs.Outcomes.{ShowsCompacted}
 use Rattle.spl_compactor.proofs.Begins.{had, had_still, is_started, worked_least}
-use Rattle.spl_compactor.proofs.Stops.{stopped_behind}
+use Rattle.spl_compactor.proofs.Ends.{asked_before, asked_so, compacted_behind}
+use Rattle.spl_compactor.proofs.Stops.{made_weaker, stopped_behind}
 use Rattle.spl_compactor.proofs.compaction.inner.Given.{Over}
 use Rattle.spl_compactor.proofs.compaction.inner.Goals as goal
 use Rattle.spl_compactor.proofs.compaction.inner.Goals.{In_ok-ticket}
@@ -52,8 +55,8 @@ returns-in-Ticket-clause-worked g c =
     let is = after g (goal.at.returns-in-Ticket-clause-worked g c).In_ok-ticket (started.Ticket c.in-Ticket.ticket) c.in-Ticket.is in
     worked_least new (told_by old) is.0 c.work.result is.1 (c.work.ensures.worked is.0 is.2 (is_started old mid c.in-Ticket.ticket is))
 
-pub returns-in-Ticket-clause-done : goal.returns-in-Ticket-clause-done
-returns-in-Ticket-clause-done g c = λ done.
+pub returns-in-Ticket-clause-made : goal.returns-in-Ticket-clause-made
+returns-in-Ticket-clause-made g c =
     let kind = branch_kind g.P.Seal.Seal.TELLS in
     let old = g.T.Turns.means c.args.desk.now.turns in
     let saw = g.T.Turns.saw c.args.desk.now.turns in
@@ -61,7 +64,20 @@ returns-in-Ticket-clause-done g c = λ done.
     let between = g.T.Turns.saw c.start.new.turns in
     let new = g.T.Turns.means c.work.new.desk.turns in
     let sees = g.T.Turns.saw c.work.new.desk.turns in
-    made_behind kind old mid new saw between sees IsEnd c.start.ensures.quiet (c.work.ensures.done done)
+    compacted_behind kind old mid new saw between sees c.args.node c.args.first c.args.last c.work.result c.start.ensures.quiet c.work.ensures.made
+
+pub returns-in-Ticket-clause-asked : goal.returns-in-Ticket-clause-asked
+returns-in-Ticket-clause-asked g c =
+    let kind = branch_kind g.P.Seal.Seal.TELLS in
+    let old = g.T.Turns.means c.args.desk.now.turns in
+    let saw = g.T.Turns.saw c.args.desk.now.turns in
+    let mid = g.T.Turns.means c.start.new.turns in
+    let between = g.T.Turns.saw c.start.new.turns in
+    let new = g.T.Turns.means c.work.new.desk.turns in
+    let sees = g.T.Turns.saw c.work.new.desk.turns in
+    asked_before kind old mid new saw between sees c.args.node c.args.first c.args.last c.work.result c.start.ensures.quiet
+    (asked_so kind old mid saw between c.args.node c.args.first c.args.last c.in_ok-ticket.field-0 c.in_ok-ticket.ensures.made)
+    c.work.ensures.quiet
 
 pub returns-in-Ticket-clause-cause : goal.returns-in-Ticket-clause-cause
 returns-in-Ticket-clause-cause g c =
@@ -90,3 +106,42 @@ pub returns-in-Crossed-clause-worked : goal.returns-in-Crossed-clause-worked
 returns-in-Crossed-clause-worked g c =
     had_still (g.T.Turns.means c.args.desk.now.turns) (g.T.Turns.means c.start.new.turns)
     (after g (goal.at.returns-in-Crossed-clause-worked g c).In_ok-ticket started.Crossed c.in-Crossed.is)
+
+pub returns-in-Busy-clause-made : goal.returns-in-Busy-clause-made
+returns-in-Busy-clause-made g c = λ history had.
+    let kind = branch_kind g.P.Seal.Seal.TELLS in
+    let old = g.T.Turns.means c.args.desk.now.turns in
+    made_weaker kind old history (g.T.Turns.means c.start.new.turns) (g.T.Turns.saw c.start.new.turns)
+    (IsStartTurn c.args.node c.args.first c.args.last (Ok c.in_ok-ticket.field-0)) (ShowsCompacted c.args.node c.args.first c.args.last compacted.Busy)
+    (λ turn is. (c.in-Busy.by, subst (λ (s : Started Branch). IsStartTurn c.args.node c.args.first c.args.last (Ok s) turn) c.in-Busy.is is)) (c.in_ok-ticket.ensures.made history had)
+
+pub returns-in-Busy-clause-asked : goal.returns-in-Busy-clause-asked
+returns-in-Busy-clause-asked g c =
+    asked_so (branch_kind g.P.Seal.Seal.TELLS) (g.T.Turns.means c.args.desk.now.turns) (g.T.Turns.means c.start.new.turns) (g.T.Turns.saw c.args.desk.now.turns) (g.T.Turns.saw c.start.new.turns)
+    c.args.node c.args.first c.args.last c.in_ok-ticket.field-0 c.in_ok-ticket.ensures.made
+
+pub returns-in-Gone-clause-made : goal.returns-in-Gone-clause-made
+returns-in-Gone-clause-made g c = λ history had.
+    let kind = branch_kind g.P.Seal.Seal.TELLS in
+    let old = g.T.Turns.means c.args.desk.now.turns in
+    made_weaker kind old history (g.T.Turns.means c.start.new.turns) (g.T.Turns.saw c.start.new.turns)
+    (IsStartTurn c.args.node c.args.first c.args.last (Ok c.in_ok-ticket.field-0)) (ShowsCompacted c.args.node c.args.first c.args.last compacted.Gone)
+    (λ turn is. subst (λ (s : Started Branch). IsStartTurn c.args.node c.args.first c.args.last (Ok s) turn) c.in-Gone.is is) (c.in_ok-ticket.ensures.made history had)
+
+pub returns-in-Gone-clause-asked : goal.returns-in-Gone-clause-asked
+returns-in-Gone-clause-asked g c =
+    asked_so (branch_kind g.P.Seal.Seal.TELLS) (g.T.Turns.means c.args.desk.now.turns) (g.T.Turns.means c.start.new.turns) (g.T.Turns.saw c.args.desk.now.turns) (g.T.Turns.saw c.start.new.turns)
+    c.args.node c.args.first c.args.last c.in_ok-ticket.field-0 c.in_ok-ticket.ensures.made
+
+pub returns-in-Crossed-clause-made : goal.returns-in-Crossed-clause-made
+returns-in-Crossed-clause-made g c = λ history had.
+    let kind = branch_kind g.P.Seal.Seal.TELLS in
+    let old = g.T.Turns.means c.args.desk.now.turns in
+    made_weaker kind old history (g.T.Turns.means c.start.new.turns) (g.T.Turns.saw c.start.new.turns)
+    (IsStartTurn c.args.node c.args.first c.args.last (Ok c.in_ok-ticket.field-0)) (ShowsCompacted c.args.node c.args.first c.args.last compacted.Crossed)
+    (λ turn is. subst (λ (s : Started Branch). IsStartTurn c.args.node c.args.first c.args.last (Ok s) turn) c.in-Crossed.is is) (c.in_ok-ticket.ensures.made history had)
+
+pub returns-in-Crossed-clause-asked : goal.returns-in-Crossed-clause-asked
+returns-in-Crossed-clause-asked g c =
+    asked_so (branch_kind g.P.Seal.Seal.TELLS) (g.T.Turns.means c.args.desk.now.turns) (g.T.Turns.means c.start.new.turns) (g.T.Turns.saw c.args.desk.now.turns) (g.T.Turns.saw c.start.new.turns)
+    c.args.node c.args.first c.args.last c.in_ok-ticket.field-0 c.in_ok-ticket.ensures.made

@@ -1,6 +1,6 @@
 use Rattle.spl_desk.specs.Branches.{branch_kind}
-use Rattle.spl_desk.proofs.Quiet.{made_behind, quiet_then}
-use Rattle.spl_compactor.specs.Compacting.{IsEnd}
+use Rattle.spl_desk.proofs.Quiet.{quiet_then}
+use Rattle.spl_compactor.proofs.Ends.{ended_behind}
 use Rattle.spl_compactor.proofs.Merges.{written_least}
 use Rattle.spl_compactor.proofs.compaction.work.Goals as goal
 
@@ -44,8 +44,8 @@ pub returns-clause-worked : goal.returns-clause-worked
 returns-clause-worked g c = λ least below started.
     c.place.ensures.placed least below (c.in_ok-published.ensures.to_place least (c.in_ok-output.ensures.written least started))
 
-pub returns-clause-done : goal.returns-clause-done
-returns-clause-done g c = λ done.
+pub returns-clause-made : goal.returns-clause-made
+returns-clause-made g c =
     let kind = branch_kind g.P.Seal.Seal.TELLS in
     let old = g.T.Turns.means c.args.desk.now.turns in
     let saw = g.T.Turns.saw c.args.desk.now.turns in
@@ -56,4 +56,4 @@ returns-clause-done g c = λ done.
     let first = quiet_then kind old merged published saw between seen c.merge.ensures.quiet c.publish_output.ensures.quiet in
     let new = g.T.Turns.means c.place.new.turns in
     let sees = g.T.Turns.saw c.place.new.turns in
-    made_behind kind old published new saw seen sees IsEnd first (c.place.ensures.done done)
+    ended_behind kind old published new saw seen sees c.place.result first c.place.ensures.made

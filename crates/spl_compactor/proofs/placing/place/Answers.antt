@@ -1,11 +1,13 @@
-use Rattle.std.proofs.Common.{◌≡◌, ◌<◌, ℕ, subst, ap, arith}
-use Rattle.std.specs.Prelude.{Ok}
+use Rattle.std.proofs.Common.{◌≡◌, ◌<◌, ℕ, subst, arith}
+use Rattle.std.specs.Prelude.{IfSome}
 use Rattle.spl_state.specs.View.{branch_data}
 use Rattle.spl_desk.specs.Holder.{kind_of}
 use Rattle.spl_desk.proofs.Quiet.{made_behind, quiet_none, quiet_then}
 use Rattle.spl_compactor.specs.declared.placing.Placed.{Placed}
 use Rattle.spl_compactor.specs.declared.placing.Placed.TheVariants as placed
-use Rattle.spl_compactor.specs.Compacting.{AfterPlace, IsEnd, IsToPlace, no_grip}
+use Rattle.spl_compactor.specs.Compacting.{AfterPlace, IsToPlace, no_grip}
+use Rattle.spl_compactor.specs.Outcomes.{ShowsEnd, WasEnded, ends}
+use Rattle.spl_compactor.specs.declared.compacted.Compacted.TheVariants as compacted
 use Rattle.spl_compactor.proofs.placing.place.Given.{Over}
 use Rattle.spl_compactor.proofs.placing.place.Goals as goal
 use Rattle.spl_compactor.proofs.placing.place.Goals.{In_ok-next}
@@ -82,12 +84,16 @@ returns-in-Done-clause-placed g c = λ least below to.
     let told = after.1 in
     (after.0, omega (arith, fewer, told))
 
-pub returns-in-Done-clause-done : goal.returns-in-Done-clause-done
-returns-in-Done-clause-done g c = λ _.
+pub returns-in-Done-clause-made : goal.returns-in-Done-clause-made
+returns-in-Done-clause-made g c =
     let kind = kind_of g.B.Content.number (branch_data g.B.Content.extents g.B.Content.entries g.B.Content.cuts g.B.Content.table) g.B.Content.TELLS in
-    made_behind kind (g.T.Turns.means c.args.turns.now) (g.T.Turns.means c.loop-next.turns) (g.T.Turns.means c.place_once.new.turns)
-    (g.T.Turns.saw c.args.turns.now) (g.T.Turns.saw c.loop-next.turns) (g.T.Turns.saw c.place_once.new.turns)
-    IsEnd c.loop-next.invariant.quiet (c.in_ok-next.ensures.done (ap Ok c.in-Done.is))
+    let old = g.T.Turns.means c.args.turns.now in
+    let mid = g.T.Turns.means c.loop-next.turns in
+    let new = g.T.Turns.means c.place_once.new.turns in
+    let between = g.T.Turns.saw c.loop-next.turns in
+    let sees = g.T.Turns.saw c.place_once.new.turns in
+    made_behind kind old mid new (g.T.Turns.saw c.args.turns.now) between sees (ShowsEnd compacted.Done) c.loop-next.invariant.quiet
+    (subst (λ (p : Placed). IfSome (ends p) (WasEnded kind mid between new sees)) c.in-Done.is c.in_ok-next.ensures.made)
 
 pub returns-in-Stale-clause-placed : goal.returns-in-Stale-clause-placed
 returns-in-Stale-clause-placed g c = λ least below to.
@@ -95,3 +101,14 @@ returns-in-Stale-clause-placed g c = λ least below to.
     let told = tried g (goal.at.returns-in-Stale-clause-placed g c).In_ok-next placed.Stale c.in-Stale.is now.0 now.2 now.3 in
     let fewer = now.1 in
     omega (arith, fewer, told)
+
+pub returns-in-Stale-clause-made : goal.returns-in-Stale-clause-made
+returns-in-Stale-clause-made g c =
+    let kind = kind_of g.B.Content.number (branch_data g.B.Content.extents g.B.Content.entries g.B.Content.cuts g.B.Content.table) g.B.Content.TELLS in
+    let old = g.T.Turns.means c.args.turns.now in
+    let mid = g.T.Turns.means c.loop-next.turns in
+    let new = g.T.Turns.means c.place_once.new.turns in
+    let between = g.T.Turns.saw c.loop-next.turns in
+    let sees = g.T.Turns.saw c.place_once.new.turns in
+    made_behind kind old mid new (g.T.Turns.saw c.args.turns.now) between sees (ShowsEnd compacted.Stale) c.loop-next.invariant.quiet
+    (subst (λ (p : Placed). IfSome (ends p) (WasEnded kind mid between new sees)) c.in-Stale.is c.in_ok-next.ensures.made)

@@ -7,6 +7,7 @@ use Rattle.spl_job.specs.Merging.{AfterInstall, IsInstallTurn, with_told}
 use Rattle.spl_job.specs.declared.merging.Installed.{Installed}
 use Rattle.spl_job.specs.declared.merging.Installed.TheVariants as installed
 use Rattle.spl_compactor.specs.Compacting.{IsEnd, IsToPlace, write_on}
+use Rattle.spl_compactor.specs.Outcomes.{IsStale}
 use Rattle.spl_compactor.proofs.Places.{may_leave, placed_done, placed_next, placed_stale, writes_there}
 use Rattle.spl_compactor.proofs.Stops.{made_weaker}
 use Rattle.spl_compactor.proofs.placing.place_in.Given.{Over}
@@ -118,8 +119,8 @@ returns-in_ok-leave-in-Elsewhere-Some-clause-placed g c = λ least to.
     let had = subst (λ (r : Installed). AfterInstall mid to.holding r) (c.in-Elsewhere-Some.is ∙ ap installed.Elsewhere c.in-Elsewhere-Some.next-is) (after g (goal.at.returns-in_ok-leave-in-Elsewhere-Some-clause-placed g c).After-install least to) in
     placed_next g.B.Content.TELLS old new least c.args.node c.args.output same to c.in-Elsewhere-Some.next had.0 had.1 had.2 (c.in_ok-leave-in-Elsewhere-Some.ensures.leaves (with_told to.holding had.0) had.3)
 
-pub returns-in_ok-leave-in-Done-clause-done : goal.returns-in_ok-leave-in-Done-clause-done
-returns-in_ok-leave-in-Done-clause-done g c = λ _ history had.
+pub returns-in_ok-leave-in-Done-clause-made : goal.returns-in_ok-leave-in-Done-clause-made
+returns-in_ok-leave-in-Done-clause-made g c =
     let kind = kind_of g.B.Content.number (branch_data g.B.Content.extents g.B.Content.entries g.B.Content.cuts g.B.Content.table) g.B.Content.TELLS in
     let old = g.T.Turns.means c.args.turns.now in
     let mid = g.T.Turns.means c.install.new.turns in
@@ -131,7 +132,7 @@ returns-in_ok-leave-in-Done-clause-done g c = λ _ history had.
     (λ past saw. made_weaker kind old past mid between (IsInstallTurn node output c.install.result) IsEnd
     (λ turn is. let answered = subst (λ (r : Installed). IsInstallTurn node output r turn) c.in-Done.is is in (output, node, answered.0, answered.1))
     (c.install.ensures.made past saw))
-    c.in_ok-leave-in-Done.ensures.quiet history had
+    c.in_ok-leave-in-Done.ensures.quiet
 
 pub returns-in-Elsewhere-None-clause-placed : goal.returns-in-Elsewhere-None-clause-placed
 returns-in-Elsewhere-None-clause-placed g c = λ least to.
@@ -139,3 +140,12 @@ returns-in-Elsewhere-None-clause-placed g c = λ least to.
     let new = g.T.Turns.means c.install.new.turns in
     placed_stale g.B.Content.TELLS old new least c.args.node c.args.output c.install.ensures.quiet.same.rule to
     (subst (λ (r : Installed). AfterInstall new to.holding r) (c.in-Elsewhere-None.is ∙ ap installed.Elsewhere c.in-Elsewhere-None.next-is) (after g (goal.at.returns-in-Elsewhere-None-clause-placed g c).After-install least to))
+
+pub returns-in-Elsewhere-None-clause-made : goal.returns-in-Elsewhere-None-clause-made
+returns-in-Elsewhere-None-clause-made g c = λ past saw.
+    let kind = kind_of g.B.Content.number (branch_data g.B.Content.extents g.B.Content.entries g.B.Content.cuts g.B.Content.table) g.B.Content.TELLS in
+    let node = c.args.node in
+    let output = c.args.output in
+    made_weaker kind (g.T.Turns.means c.args.turns.now) past (g.T.Turns.means c.install.new.turns) (g.T.Turns.saw c.install.new.turns) (IsInstallTurn node output c.install.result) IsStale
+    (λ turn is. let answered = subst (λ (r : Installed). IsInstallTurn node output r turn) (c.in-Elsewhere-None.is ∙ ap installed.Elsewhere c.in-Elsewhere-None.next-is) is in (output, node, answered.0, answered.1))
+    (c.install.ensures.made past saw)

@@ -1,5 +1,6 @@
 use Rattle.spl_desk.specs.Branches.{branch_kind}
 use Rattle.spl_desk.proofs.Quiet.{quiet_then}
+use Rattle.spl_packer.proofs.Shown.{packed_before}
 use Rattle.spl_packer.proofs.Stops.{stopped_before}
 use Rattle.spl_packer.proofs.packing.pack.Goals as goal
 
@@ -15,3 +16,9 @@ returns-in-Ok-NeedsFlush-clause-cause g c =
     (g.T.Turns.saw c.args.desk.now.turns) (g.T.Turns.saw c.pack_or_stop-outcome.new.desk.turns) (g.T.Turns.saw c.abandon.new.turns)
     c.pack_or_stop-outcome.result (g.P.Port.counts c.args.desk.now.port.now) (g.P.Port.counts c.pack_or_stop-outcome.new.desk.port.now)
     c.pack_or_stop-outcome.ensures.quiet c.pack_or_stop-outcome.ensures.cause c.abandon.ensures.quiet
+
+pub returns-in-Ok-NeedsFlush-clause-made : goal.returns-in-Ok-NeedsFlush-clause-made
+returns-in-Ok-NeedsFlush-clause-made g c =
+    packed_before (branch_kind g.P.Seal.Seal.TELLS) (g.T.Turns.means c.args.desk.now.turns) (g.T.Turns.means c.pack_or_stop-outcome.new.desk.turns) (g.T.Turns.means c.abandon.new.turns)
+    (g.T.Turns.saw c.args.desk.now.turns) (g.T.Turns.saw c.pack_or_stop-outcome.new.desk.turns) (g.T.Turns.saw c.abandon.new.turns)
+    c.pack_or_stop-outcome.result c.pack_or_stop-outcome.ensures.quiet c.pack_or_stop-outcome.ensures.made c.abandon.ensures.quiet

@@ -1,6 +1,6 @@
 use Rattle.spl_desk.specs.Branches.{branch_kind}
-use Rattle.spl_desk.proofs.Quiet.{counts_same, made_behind, quiet_then}
-use Rattle.spl_job.specs.After.{HangsBranch}
+use Rattle.spl_desk.proofs.Quiet.{counts_same, quiet_then}
+use Rattle.spl_packer.proofs.Shown.{packed_behind}
 use Rattle.spl_packer.proofs.Stops.{stopped_behind}
 use Rattle.spl_packer.proofs.packing.pack_oldest.Goals as goal
 
@@ -10,11 +10,11 @@ returns-in-Some-clause-quiet g c =
     (g.T.Turns.saw c.args.desk.now.turns) (g.T.Turns.saw c.pick.new.turns) (g.T.Turns.saw c.pack_picked.new.desk.turns)
     c.pick.ensures.quiet c.pack_picked.ensures.quiet
 
-pub returns-in-Some-clause-done : goal.returns-in-Some-clause-done
-returns-in-Some-clause-done g c = λ done.
-    made_behind (branch_kind g.P.Seal.Seal.TELLS) (g.T.Turns.means c.args.desk.now.turns) (g.T.Turns.means c.pick.new.turns) (g.T.Turns.means c.pack_picked.new.desk.turns)
+pub returns-in-Some-clause-made : goal.returns-in-Some-clause-made
+returns-in-Some-clause-made g c =
+    packed_behind (branch_kind g.P.Seal.Seal.TELLS) (g.T.Turns.means c.args.desk.now.turns) (g.T.Turns.means c.pick.new.turns) (g.T.Turns.means c.pack_picked.new.desk.turns)
     (g.T.Turns.saw c.args.desk.now.turns) (g.T.Turns.saw c.pick.new.turns) (g.T.Turns.saw c.pack_picked.new.desk.turns)
-    HangsBranch c.pick.ensures.quiet (c.pack_picked.ensures.done done)
+    c.pack_picked.result c.pick.ensures.quiet c.pack_picked.ensures.made
 
 pub returns-in-Some-clause-cause : goal.returns-in-Some-clause-cause
 returns-in-Some-clause-cause g c =

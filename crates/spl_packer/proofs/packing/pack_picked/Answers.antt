@@ -1,11 +1,13 @@
-use Rattle.std.proofs.Common.{[]}
+use Rattle.std.proofs.Common.{[], inl}
 use Rattle.spl_desk.specs.Branches.{branch_kind}
 use Rattle.spl_desk.specs.Quiet.{HasWorkCause}
-use Rattle.spl_desk.proofs.Quiet.{cause_behind, counts_same, made_behind, quiet_then}
+use Rattle.spl_desk.proofs.Quiet.{cause_behind, counts_same, quiet_then}
 use Rattle.spl_enter.specs.Turning.{HasTurnCause}
-use Rattle.spl_job.specs.After.{HangsBranch}
+use Rattle.spl_packer.specs.Outcomes.{ShowsFull, ShowsPacked}
 use Rattle.spl_packer.specs.Packs.{packs}
+use Rattle.spl_packer.specs.declared.packed.Packed.TheVariants as packed
 use Rattle.spl_packer.proofs.Outcomes.{picked_on}
+use Rattle.spl_packer.proofs.Shown.{made_so, packed_behind}
 use Rattle.spl_packer.proofs.Stops.{if_err_map, if_err_same, turn_cause}
 use Rattle.spl_packer.proofs.packing.pack_picked.Goals as goal
 
@@ -73,19 +75,19 @@ returns-clause-quiet g c =
     c.publish_built.ensures.quiet)
     c.hang.ensures.quiet
 
-pub returns-clause-done : goal.returns-clause-done
-returns-clause-done g c = λ done.
+pub returns-clause-made : goal.returns-clause-made
+returns-clause-made g c =
     let kind = branch_kind g.P.Seal.Seal.TELLS in
     let old = g.T.Turns.means c.args.desk.now.turns in
     let saw = g.T.Turns.saw c.args.desk.now.turns in
     let built = g.T.Turns.means c.build.new.turns in
     let published = g.T.Turns.means c.publish_built.new.turns in
-    made_behind kind old published (g.T.Turns.means c.hang.new.turns) saw (g.T.Turns.saw c.publish_built.new.turns) (g.T.Turns.saw c.hang.new.turns) HangsBranch
+    packed_behind kind old published (g.T.Turns.means c.hang.new.turns) saw (g.T.Turns.saw c.publish_built.new.turns) (g.T.Turns.saw c.hang.new.turns) c.hang.result
     (quiet_then kind old built published saw (g.T.Turns.saw c.build.new.turns) (g.T.Turns.saw c.publish_built.new.turns)
     (quiet_then kind old (g.T.Turns.means c.is_root_full.new.turns) built saw (g.T.Turns.saw c.is_root_full.new.turns) (g.T.Turns.saw c.build.new.turns)
     c.is_root_full.ensures.quiet c.build.ensures.quiet)
     c.publish_built.ensures.quiet)
-    (c.hang.ensures.made done)
+    c.hang.ensures.made
 
 pub returns-clause-cause : goal.returns-clause-cause
 returns-clause-cause g c =
@@ -98,3 +100,8 @@ returns-clause-cause g c =
     let after = g.P.Port.counts c.build.new.port in
     if_err_map c.hang.result (HasTurnCause new) (HasWorkCause kind old saw new sees before after)
     (λ fault cause. turn_cause kind old new saw sees before after fault cause) c.hang.ensures.cause
+
+pub returns-then-branch-clause-made : goal.returns-then-branch-clause-made
+returns-then-branch-clause-made g c = λ history had.
+    made_so (branch_kind g.P.Seal.Seal.TELLS) (g.T.Turns.means c.args.desk.now.turns) (g.T.Turns.means c.is_root_full.new.turns) history (g.T.Turns.saw c.is_root_full.new.turns)
+    ShowsFull (ShowsPacked packed.NeedsFlush) (λ turn is. inl is) (c.in_ok-is_root_full.ensures.full c.if-branch.true history had)
