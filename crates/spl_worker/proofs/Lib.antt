@@ -1,1 +1,3 @@
-pub mod Seen
+pub mod Parts
+pub mod Shown
+pub mod Ways

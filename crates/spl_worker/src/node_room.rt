@@ -1,29 +1,47 @@
 //! Room in a node.
-ghost use Rattle.std.specs.Prelude.{◌≡◌, ◌⊎◌, ◌<◌, ◌^◌, Ok, IfErr, OnErr, OnOk};
+ghost use Rattle.std.specs.Prelude.{◌≡◌, ◌<◌, ◌^◌, IfErr, OnErr, OnOk};
 ghost use Rattle.spl_message.specs.History.{History};
 ghost use Rattle.spl_desk.specs.Branches.{branch_kind};
 ghost use Rattle.spl_desk.specs.Calls.{HasSeen, MadeFew, MayCall, NeverFell};
 ghost use Rattle.spl_desk.specs.Quiet.{HasWorkCause, IsQuiet, WasMade};
-ghost use Rattle.spl_compactor.specs.Compacting.{told_by};
-ghost use Rattle.spl_worker.specs.Rooms.{ShowsInner, ShowsRoom};
+ghost use Rattle.spl_worker.specs.Plans.{IsNamed};
+ghost use Rattle.spl_worker.specs.Reliefs.{has_room, next_for};
+ghost use Rattle.spl_worker.specs.Rooms.{ShowsRoom};
 
-use crate::Room;
-use crate::look::look;
-use crate::run::run_of;
+use crate::relief::Relief;
+use crate::relieving::relieve;
 use spl_branch::Branch;
 use spl_bundle::MAX_LISTS;
-use spl_compactor::compact;
 use spl_desk::{CallFault, Desk, Turns};
 use spl_message::MergeLaw;
 use spl_pager::Pager;
 use spl_port::Port;
 
-/// Makes room for one more bundle in the node, where it is a leaf: its bundles are merged into one. Where others merge them, it looks
-/// again until they have.
+/// Whether the node was seen with room.
+fn has_room(relief: Relief) -> bool
+    ensures { result ≡ has_room relief }
+{
+    matches!(relief, Relief::Room { .. })
+}
+
+/// Where to work next, so that the node gets room: back at the node where another one has room, at a child that needs it first, and else
+/// where the work was.
+fn next_for(node: u32, at: u32, relief: Relief) -> u32
+    ensures { result ≡ next_for node at relief }
+{
+    match relief {
+        Relief::Room { .. } => node,
+        Relief::Below { child } => child,
+        Relief::Grown | Relief::Flushed | Relief::Compacted | Relief::Stale => at,
+    }
+}
+
+/// Makes room for one more bundle in the node. The bundles of a leaf are merged into one; a node with children passes its own to them, and
+/// room is made first in a child that is full. Where others are at it, it looks again until they have done.
 pub fn make_room<T: Turns<Branch<P::Seal>>, P: Port, G: Pager, L: MergeLaw>(
     desk: &mut Desk<'_, T, P, G, L>,
     node: u32,
-) -> Result<Room, CallFault>
+) -> Result<(), CallFault>
     requires turns { (T.means desk.old.turns).turns < 2 ^ 41 }
     requires ready { T.ready desk.old.turns }
     requires seen { HasSeen (T.saw desk.old.turns) }
@@ -32,7 +50,7 @@ pub fn make_room<T: Turns<Branch<P::Seal>>, P: Port, G: Pager, L: MergeLaw>(
     requires lawful { L.ready desk.old.law.now }
 
     // The node is the root, or one that the actor was told of.
-    requires known { (node ≡ 0) ⊎ (node < told_by (T.means desk.old.turns)) }
+    requires known { IsNamed (T.means desk.old.turns) node }
     ensures quiet { IsQuiet (branch_kind P.Seal.TELLS) (T.means desk.old.turns) (T.saw desk.old.turns)
         (T.means desk.new.turns) (T.saw desk.new.turns) }
     ensures nothing { MayCall (T.means desk.new.turns) }
@@ -46,24 +64,19 @@ pub fn make_room<T: Turns<Branch<P::Seal>>, P: Port, G: Pager, L: MergeLaw>(
     ensures port { NeverFell (P.counts desk.old.port.now) (P.counts desk.new.port.now) }
 
     // A survey of the node in this call showed it so.
-    ensures made { result ≡ Ok Room.Made → (history : History) → T.saw desk.old.turns history
+    ensures made { OnOk result ((history : History) → T.saw desk.old.turns history
         → WasMade (branch_kind P.Seal.TELLS) (T.means desk.old.turns) history
-        (T.means desk.new.turns) (T.saw desk.new.turns) (ShowsRoom node) }
-    ensures inner { result ≡ Ok Room.Inner → (history : History) → T.saw desk.old.turns history
-        → WasMade (branch_kind P.Seal.TELLS) (T.means desk.old.turns) history
-        (T.means desk.new.turns) (T.saw desk.new.turns) (ShowsInner node) }
+        (T.means desk.new.turns) (T.saw desk.new.turns) (ShowsRoom node)) }
     ensures cause { IfErr result (HasWorkCause (branch_kind P.Seal.TELLS) (T.means desk.old.turns)
         (T.saw desk.old.turns) (T.means desk.new.turns) (T.saw desk.new.turns)
         (P.counts desk.old.port.now) (P.counts desk.new.port.now)) }
 {
+    let mut at = node;
     'room: loop {
-        let view = look(&mut desk.turns, node)?;
-        let Some(run) = run_of(&view, MAX_LISTS) else {
-            return Ok(Room::Made);
-        };
-        if view.height > 0 {
-            return Ok(Room::Inner);
+        let relief = relieve(desk, at, MAX_LISTS)?;
+        if at == node && has_room(relief) {
+            return Ok(());
         }
-        compact(desk, node, run.first, run.last)?;
+        at = next_for(node, at, relief);
     }
 }

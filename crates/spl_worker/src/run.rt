@@ -2,11 +2,24 @@ ghost use Rattle.std.specs.Prelude.{◌≡◌, ◌<◌, length, None};
 
 use spl_state::View;
 
-/// All bundles of a node, from the first one up to the last one.
+/// Bundles of a node, from the first one up to the last one.
 #[derive(Clone, Copy, Debug)]
 pub(crate) struct Run {
     pub(crate) first: u64,
     pub(crate) last: u64,
+}
+
+impl Run {
+    /// One bundle.
+    pub(crate) fn of_one(number: u64) -> Run
+        ensures first { result.first ≡ number }
+        ensures last { result.last ≡ number }
+    {
+        Run {
+            first: number,
+            last: number,
+        }
+    }
 }
 
 /// All bundles of the node, where it has so many or more.

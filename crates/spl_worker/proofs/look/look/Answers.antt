@@ -32,3 +32,12 @@ returns-clause-told g c =
     let is = on.2.has.told in
     let root = root_told new _ on.2 within in
     elim c.requires.known [ inl first ↦ omega (arith, first, is, root) | inr below ↦ omega (arith, below, more, is) ]
+
+pub returns-clause-more : goal.returns-clause-more
+returns-clause-more g c =
+    let old = g.T.Turns.means c.args.turns.now in
+    let new = g.T.Turns.means c.survey.new.turns in
+    let on = c.survey.ensures.holds (no_holding old.at old.actor) (nothing_holds old c.requires.nothing) in
+    let more = on.1 in
+    let is = on.2.has.told in
+    omega (arith, more, is)

@@ -1,7 +1,7 @@
 use Rattle.std.proofs.Common.{◌≡◌, ◌^◌, ◌-◌}
 use Rattle.spl_desk.specs.Branches.{branch_kind}
-use Rattle.spl_desk.specs.Calls.{MadeFew, MayCall, NeverFell}
-use Rattle.spl_desk.specs.Quiet.{IsQuiet}
+use Rattle.spl_desk.specs.Calls.{MadeFew}
+use Rattle.spl_worker.specs.Working.{HasWorked}
 use Rattle.spl_worker.proofs.memtable_room.make_memtable_room.Given as goal
 
 abbrev pub invariant-room : goal.invariant-room
@@ -9,14 +9,12 @@ invariant-room g l =
     let old = g.T.Turns.means l.initial.desk.turns in
     let now = g.T.Turns.means l.desk.turns in
     record {
-      quiet : IsQuiet (branch_kind g.P.Seal.Seal.TELLS) old (g.T.Turns.saw l.initial.desk.turns) now (g.T.Turns.saw l.desk.turns);
-      nothing : MayCall now;
-      ready : g.T.Turns.ready l.desk.turns;
+      worked : HasWorked (branch_kind g.P.Seal.Seal.TELLS) old (g.T.Turns.saw l.initial.desk.turns) now (g.T.Turns.saw l.desk.turns) (g.P.Port.counts l.initial.desk.port.now) (g.P.Port.counts l.desk.port.now);
       few : MadeFew old now 0;
+      ready : g.T.Turns.ready l.desk.turns;
       law : l.desk.law.now ≡ l.initial.desk.law.now;
       pager : l.desk.pager.now ≡ l.initial.desk.pager.now;
       device : l.desk.port.ghost_name ≡ l.initial.desk.port.ghost_name;
-      port : NeverFell (g.P.Port.counts l.initial.desk.port.now) (g.P.Port.counts l.desk.port.now);
     }
 
 abbrev pub decreases-room : goal.decreases-room

@@ -1,8 +1,7 @@
-use Rattle.std.proofs.Common.{◌≡◌, ◌⊎◌, ◌<◌, ◌^◌, ◌-◌}
+use Rattle.std.proofs.Common.{◌≡◌, ◌^◌, ◌-◌}
 use Rattle.spl_desk.specs.Branches.{branch_kind}
-use Rattle.spl_desk.specs.Calls.{MadeFew, MayCall, NeverFell}
-use Rattle.spl_desk.specs.Quiet.{IsQuiet}
-use Rattle.spl_compactor.specs.Compacting.{told_by}
+use Rattle.spl_worker.specs.Plans.{IsNamed}
+use Rattle.spl_worker.specs.Working.{HasGoneOn, HasWorked}
 use Rattle.spl_worker.proofs.node_room.make_room.Given as goal
 
 abbrev pub invariant-room : goal.invariant-room
@@ -10,15 +9,13 @@ invariant-room g l =
     let old = g.T.Turns.means l.initial.desk.turns in
     let now = g.T.Turns.means l.desk.turns in
     record {
-      quiet : IsQuiet (branch_kind g.P.Seal.Seal.TELLS) old (g.T.Turns.saw l.initial.desk.turns) now (g.T.Turns.saw l.desk.turns);
-      nothing : MayCall now;
+      worked : HasWorked (branch_kind g.P.Seal.Seal.TELLS) old (g.T.Turns.saw l.initial.desk.turns) now (g.T.Turns.saw l.desk.turns) (g.P.Port.counts l.initial.desk.port.now) (g.P.Port.counts l.desk.port.now);
+      went : HasGoneOn old now;
       ready : g.T.Turns.ready l.desk.turns;
-      few : MadeFew old now 0;
       law : l.desk.law.now ≡ l.initial.desk.law.now;
       pager : l.desk.pager.now ≡ l.initial.desk.pager.now;
       device : l.desk.port.ghost_name ≡ l.initial.desk.port.ghost_name;
-      port : NeverFell (g.P.Port.counts l.initial.desk.port.now) (g.P.Port.counts l.desk.port.now);
-      known : (l.node ≡ 0) ⊎ (l.node < told_by now);
+      named : IsNamed now l.at;
     }
 
 abbrev pub decreases-room : goal.decreases-room
