@@ -1,11 +1,11 @@
 -- One message for those of several tables, newest first.
-use Rattle.std.proofs.Common.{◌≡◌, ℕ, suc, ◌≤◌, Bool, true, List, [], ◌∷◌, ◌++◌, Option, Some, None, length, map, get_or, drop, take, refl, sym, ap, subst, ◌∙◌, append_assoc, take-append-drop, arith}
-use Rattle.std.specs.Prelude.{option_to_list}
+use Rattle.std.proofs.Common.{◌≡◌, ℕ, suc, ◌+◌, ◌≤◌, Bool, true, List, [], ◌∷◌, ◌++◌, Option, Some, None, length, map, get_or, drop, take, refl, sym, ap, subst, ◌∙◌, append_assoc, take-append-drop, arith}
+use Rattle.std.specs.Prelude.{option_to_list, sum_by}
 use Rattle.std.proofs.Math.Seq.{drop-cons}
 use Rattle.std.proofs.lemmas.Bool.{false≢true}
 use Rattle.std.proofs.lemmas.Grind.{flat_map-append}
 use Rattle.std.proofs.lemmas.List.{map-append}
-use Rattle.std.proofs.lemmas.List.Sums.{fold-append}
+use Rattle.std.proofs.lemmas.List.Sums.{fold-append, sum_by-cons, sum_by-drop_more, sum_by-take-drop}
 use Rattle.spl_message.specs.declared.message.Message.{Message}
 use Rattle.spl_message.specs.declared.message.Message.TheVariants.{Insert, Delete, Update}
 use Rattle.spl_message.specs.Cell.{Cell}
@@ -67,6 +67,24 @@ module _ (rule : Rule) (key : List ℕ) where
         ∙ one (act_all rule key cell older)
         ∙ sym (acts_on cell older (from xs left ++ rest))
         ∙ ap (act_all rule key cell) (sym (append_assoc older (from xs left) rest) ∙ ap (λ (ms : List Message). ms ++ rest) parts)
+
+-- a sum over the values of a list
+pub sum_by-mapped : {X Y : Type 0} (f : Y → ℕ) (g : X → Y) (xs : List X) → sum_by f (map g xs) ≡ sum_by (λ x. f (g x)) xs
+sum_by-mapped f g [] = refl
+sum_by-mapped f g (x ∷ xs) =
+    sum_by-cons f (g x) (map g xs) ∙ ap (λ (n : ℕ). f (g x) + n) (sum_by-mapped f g xs) ∙ sym (sum_by-cons (λ y. f (g y)) x xs)
+
+module _ {X : Type 0} (f : X → ℕ) (xs : List X) where
+  -- the part of a list from a place on has no greater sum
+  pub sum_from : (left start now : ℕ) → now ≤ start + sum_by f (drop left xs) → now ≤ start + sum_by f xs
+  sum_from left start now below = let parts = sum_by-take-drop f xs left in omega (arith, below, parts)
+
+  -- and one more entry
+  pub sum_before : (left n : ℕ) (x : X) (start now later : ℕ) → n ≡ suc left → n ≤ length xs → now ≤ start + sum_by f (drop n xs) → later ≤ now + f (get_or xs left x) → later ≤ start + sum_by f (drop left xs)
+  sum_before left n x start now later is within below more =
+      let next = sum_by-drop_more f xs left x (omega arith) in
+      let same : sum_by f (drop (left + 1) xs) ≡ sum_by f (drop n xs) = ap (λ (k : ℕ). sum_by f (drop k xs)) (omega arith) in
+      omega (arith, next, same, below, more)
 
 -- what stopped the look into a branch stopped the call; where devices tell their pages, no page is damaged
 pub read_cause : (tells : Bool) (branch : Branch) (before after : Counts) (fault : BranchFault) → (tells ≡ true → AreTold branch.parts) → HasBranchCause branch before after fault → HasReadCause tells before after (of_branch fault)

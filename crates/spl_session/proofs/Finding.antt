@@ -15,7 +15,8 @@ use Rattle.spl_desk.specs.declared.fault.CallFault.{CallFault}
 use Rattle.spl_desk.specs.declared.fault.CallFault.TheVariants as call_fault
 use Rattle.spl_desk.specs.Holder.{BranchKind, Holder}
 use Rattle.spl_session.specs.Asking.{Folds, HasReadCause, decides}
-use Rattle.spl_session.specs.Descending.{Arrived, Descended, IsFor, descent_of, tables_in}
+use Rattle.spl_down.specs.Descending.{Arrived, Descended, descent_of, tables_in}
+use Rattle.spl_message.specs.Span.{InSpan}
 use Rattle.spl_session.specs.Looking.{HasLookCause, is_last}
 use Rattle.spl_session.proofs.Asking.{acts_on, decided_same}
 
@@ -30,11 +31,11 @@ module _ {B : Type 0} (kind : BranchKind B) (key : List ℕ) where
     over : (low : Cell) → act_all holder.rule key low (option_to_list found) ≡ act_all holder.rule key (act_all holder.rule key low (chain (tables_in kind sight) key)) (option_to_list newer)
     over low = folds low ∙ acts_on holder.rule key low (chain (tables_in kind sight) key) (option_to_list newer)
 
-    pub found_last : Arrived kind holder sight → IsFor key sight.span → is_last sight found ≡ true → act_all holder.rule key None (option_to_list found) ≡ act_all holder.rule key (rest holder.rule holder.at sight.node key) (option_to_list newer)
-    found_last arrived for last =
+    pub found_last : Arrived kind holder sight → InSpan sight.span key → is_last sight found ≡ true → act_all holder.rule key None (option_to_list found) ≡ act_all holder.rule key (rest holder.rule holder.at sight.node key) (option_to_list newer)
+    found_last arrived inside last =
         let rule = holder.rule in
         let low = rest_below rule holder.at (descent_of sight) key in
-        let right = arrived.right key for.inside in
+        let right = arrived.right key inside in
         by sight.leaf refl last ∙ over low ∙ ap (λ (c : Cell). act_all rule key c (option_to_list newer)) (sym right)
       where
         by : (leaf : Bool) → sight.leaf ≡ leaf → (leaf || decides found) ≡ true → act_all holder.rule key None (option_to_list found) ≡ act_all holder.rule key (rest_below holder.rule holder.at (descent_of sight) key) (option_to_list found)
@@ -44,9 +45,9 @@ module _ {B : Type 0} (kind : BranchKind B) (key : List ℕ) where
             ap (λ (c : Cell). act_all holder.rule key c (option_to_list found)) (sym none)
         by false is last = decided_same holder.rule key found last None (rest_below holder.rule holder.at (descent_of sight) key)
 
-    pub found_on : (new : Holder) (next : Sight B) → Descended kind holder new sight next → IsFor key sight.span → kind.tells ≡ true → act_all holder.rule key (rest holder.rule new.at next.node key) (option_to_list found) ≡ act_all holder.rule key (rest holder.rule holder.at sight.node key) (option_to_list newer)
-    found_on new next moved for tells =
-        over (rest holder.rule new.at next.node key) ∙ ap (λ (c : Cell). act_all holder.rule key c (option_to_list newer)) (sym (moved.leads tells key for))
+    pub found_on : (new : Holder) (next : Sight B) → Descended kind holder new sight next → InSpan next.span key → kind.tells ≡ true → act_all holder.rule key (rest holder.rule new.at next.node key) (option_to_list found) ≡ act_all holder.rule key (rest holder.rule holder.at sight.node key) (option_to_list newer)
+    found_on new next moved inside tells =
+        over (rest holder.rule new.at next.node key) ∙ ap (λ (c : Cell). act_all holder.rule key c (option_to_list newer)) (sym (moved.leads tells key inside))
 
 -- what stopped asking the branches stopped the lookup
 pub read_stops : (tells : Bool) (start mid after : Counts) (new : Holder) (fault : CallFault) → OnlyReads start mid → HasReadCause tells mid after fault → HasLookCause tells start after new fault

@@ -1,9 +1,9 @@
 pub mod Asking
-pub mod Seeing
-pub mod Beginning
-pub mod Moving
+pub mod Keys
+pub mod Ways
 pub mod Walking
 pub mod Finding
 pub mod Tries
 pub mod Stays
 pub mod Fresh
+pub mod Asks

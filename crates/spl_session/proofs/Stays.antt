@@ -18,7 +18,8 @@ use Rattle.spl_desk.proofs.Walks.{IsAlike, went_none, went_on, no_call_on, none_
 use Rattle.std.specs.Result.{IsErr, IsErrAnd}
 use Rattle.std.proofs.lemmas.Bool.{true≢false}
 use Rattle.spl_session.specs.declared.steps.Progress.{Progress}
-use Rattle.spl_session.specs.Putting.{AfterAttempt, IsOwnFault}
+use Rattle.spl_down.specs.Descending.{HasTurnCause}
+use Rattle.spl_session.specs.Putting.{AfterAttempt}
 
 pub alike_of : (old new : Holder) → HasCalled old new → IsAlike old new
 alike_of old new called = record { alone = called.alone; actor = called.actor; rule = called.rule }
@@ -80,7 +81,7 @@ module _ {B : Type 0} (kind : BranchKind B) where
     cause_then counts mid_counts after fault.NoMemory fell two history saw = tt
 
   -- a fault of a call that touches no device
-  pub own_cause : (old new : Holder) (Saw : History → Type 0) (before after : Counts) (f : CallFault) → IsOwnFault new f → (history : History) → HasCallCause kind old history new Saw before after f
+  pub own_cause : (old new : Holder) (Saw : History → Type 0) (before after : Counts) (f : CallFault) → HasTurnCause new f → (history : History) → HasCallCause kind old history new Saw before after f
   own_cause old new Saw before after fault.NoMemory own history = tt
   own_cause old new Saw before after (fault.Spent turns) own history = own
   own_cause old new Saw before after fault.Fault own history = absurd own
@@ -89,7 +90,7 @@ module _ {B : Type 0} (kind : BranchKind B) where
   own_cause old new Saw before after fault.Nodes own history = absurd own
 
 -- a fault of the call's own stays one when more steps are made
-pub own_later : (mid new : Holder) (f : CallFault) → mid.turns ≤ new.turns → IsOwnFault mid f → IsOwnFault new f
+pub own_later : (mid new : Holder) (f : CallFault) → mid.turns ≤ new.turns → HasTurnCause mid f → HasTurnCause new f
 own_later mid new fault.NoMemory later own = tt
 own_later mid new (fault.Spent turns) later own = (own.0, omega (arith, own.1, later))
 own_later mid new fault.Fault later own = absurd own

@@ -11,13 +11,13 @@ use Rattle.spl_state.specs.Frame.{refused}
 use Rattle.spl_state.specs.Whole.{Whole}
 use Rattle.spl_steps.specs.Memory.{HasPut}
 use Rattle.spl_memtable.specs.Memtable.{IsFull}
-use Rattle.spl_core.specs.declared.step.Step.TheVariants.{Put, Rotate, Abandon}
+use Rattle.spl_core.specs.declared.step.Step.TheVariants.{Put, Rotate}
 use Rattle.spl_core.specs.Standing.{called}
 use Rattle.spl_core.specs.Steps.{IsPut, IsRotation}
 use Rattle.spl_desk.specs.Calls.{HasNothing, MadeCall, MadeNoCall}
 use Rattle.spl_desk.specs.Holder.{BranchKind, Holder}
 use Rattle.spl_desk.specs.Turn.{MadeTurn}
-use Rattle.spl_desk.proofs.Walks.{same_nothing, abandoned_nothing, step_made, nothing_before, no_call, one_call}
+use Rattle.spl_desk.proofs.Walks.{same_nothing, step_made, nothing_before, no_call, one_call}
 
 module _ {B : Type 0} (kind : BranchKind B) (old new : Holder) (history : History) (answer : Reply B) (Saw : History → Type 0) where
   module _ (key : List ℕ) (message : Message) (turn : MadeTurn kind old new history (Put key message) answer Saw) where
@@ -122,10 +122,3 @@ module _ {B : Type 0} (kind : BranchKind B) (old new : Holder) (history : Histor
 
         four : 4 ≤ length was_rotated.tables.frozen → length was_rotated.tables.frozen ≡ 4
         four many = let few = turn.legal.sound.memtables.few in omega (arith, few, many)
-
-  module _ (turn : MadeTurn kind old new history Abandon answer Saw) where
-    pub abandon_no_call : MadeNoCall kind old history new Saw
-    abandon_no_call = no_call kind old new history Abandon answer Saw turn refl
-
-    pub abandon_nothing : HasNothing new.at old.actor
-    abandon_nothing = abandoned_nothing (refused turn.turn.before) new.at old.actor (step_made kind old new history Abandon answer Saw turn).1

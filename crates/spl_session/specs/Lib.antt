@@ -1,5 +1,6 @@
 pub mod Asking
-pub mod Descending
+pub mod Calling
 pub mod Looking
 pub mod Putting
+pub mod Reaching
 pub mod Writes

@@ -4,8 +4,7 @@ use Rattle.spl_base.specs.declared.NoMemory.{NoMemory}
 use Rattle.spl_message.specs.declared.call.Call.{Call}
 use Rattle.spl_message.specs.History.{History}
 use Rattle.spl_desk.specs.declared.fault.CallFault.{CallFault}
-use Rattle.spl_desk.specs.declared.fault.CallFault.TheVariants as fault
-use Rattle.spl_desk.specs.Calls.{IsSpentAt, MadeCall, MadeNoCall}
+use Rattle.spl_desk.specs.Calls.{MadeCall, MadeNoCall}
 use Rattle.spl_desk.specs.Holder.{BranchKind, Holder}
 use Rattle.spl_session.specs.declared.steps.Progress.{Progress}
 use Rattle.spl_session.specs.declared.steps.Progress.TheVariants.{Placed, Again, Frozen}
@@ -27,9 +26,3 @@ module _ {B : Type 0} (kind : BranchKind B) (old : Holder) (history : History) (
 -- the core has as many frozen memtables as there can be
 abbrev pub IsAllFrozen : Holder → Type 0
 IsAllFrozen holder = length holder.at.tables.frozen ≡ 4
-
--- the faults of a call that touches no device: memory ran out, or the holder is spent
-abbrev pub IsOwnFault : Holder → CallFault → Type 0
-IsOwnFault new fault.NoMemory = Unit {0}
-IsOwnFault new (fault.Spent turns) = IsSpentAt turns new
-IsOwnFault new _ = ⊥

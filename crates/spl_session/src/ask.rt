@@ -1,8 +1,8 @@
 //! The messages that a key has in the tables of a node, all in one.
-ghost use Rattle.std.specs.Prelude.{◌≡◌, ◌∷◌, ◌++◌, true, map, option_to_list, IfOk, IfErr};
+ghost use Rattle.std.specs.Prelude.{◌≡◌, ◌∷◌, ◌++◌, ◌+◌, ◌≤◌, true, map, sum_by, option_to_list, IfOk, IfErr};
 ghost use Rattle.spl_message.specs.Table.{chain, message_at};
 ghost use Rattle.spl_branch.specs.Branch.{table_of};
-ghost use Rattle.spl_branch.specs.Reading.{OnlyReads};
+ghost use Rattle.spl_branch.specs.Reading.{OnlyReads, reach_of};
 ghost use Rattle.spl_session.specs.Asking.{Folds, HasReadCause, decides, of_branch};
 
 use spl_base::NoMemory;
@@ -110,6 +110,7 @@ fn ask_branch<P: Port, G: Pager, L: MergeLaw>(
     requires { L.ready law.now }
     ensures told { P.Seal.TELLS ≡ true → IfOk result (Folds (L.rule law.now) key.now
         (option_to_list (message_at (table_of branch.now) key.now) ++ option_to_list found)) }
+    ensures reach { P.Seal.TELLS ≡ true → (P.counts port.new).reads ≤ (P.counts port.old).reads + reach_of branch.now key.now }
     ensures counts { OnlyReads (P.counts port.old) (P.counts port.new) }
     ensures cause { IfErr result (HasReadCause P.Seal.TELLS (P.counts port.old) (P.counts port.new)) }
 {
@@ -135,6 +136,8 @@ pub(crate) fn ask_branches<P: Port, G: Pager, L: MergeLaw>(
     requires { L.ready law.now }
     ensures told { P.Seal.TELLS ≡ true → IfOk result (Folds (L.rule law.now) key.now
         (chain (map table_of branches.now) key.now ++ option_to_list found)) }
+    ensures reach { P.Seal.TELLS ≡ true → (P.counts port.new).reads
+        ≤ (P.counts port.old).reads + sum_by (λ branch. reach_of branch key.now) branches.now }
     ensures counts { OnlyReads (P.counts port.old) (P.counts port.new) }
     ensures cause { IfErr result (HasReadCause P.Seal.TELLS (P.counts port.old) (P.counts port.new)) }
 {

@@ -4,22 +4,24 @@
 //! them is packed first. Between two steps of a put the holder's actor has nothing, so a put that stops leaves nothing behind, and one
 //! that ends with an error has changed no key.
 //!
-//! A lookup is one descent. At each node it makes one message of those that the key has there, newest first, and ends
+//! A lookup is one descent of `spl_down`. At each node it makes one message of those that the key has there, newest first, and ends
 //! where what lies below no longer matters. Pages are read while the node is latched, so no branch is freed under a read.
 #![tactic(auto)]
 
 mod ask;
-mod down;
 mod found;
 mod look;
 mod puts;
+mod session;
 mod steps;
 mod way;
 mod write;
 
-pub use found::{Found, Stopped};
+pub use found::Found;
 pub use look::lookup;
 pub use puts::{delete, insert, put, update};
+pub use session::Session;
+pub use spl_down::Stopped;
 pub use write::Write;
 
 #[cfg(test)]

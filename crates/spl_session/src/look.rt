@@ -1,23 +1,25 @@
 //! The lookup of a key.
-ghost use Rattle.std.specs.Prelude.{◌≡◌, ◌<◌, ◌^◌, true, option_to_list, IfOk, IfErr, OnOk, MatchOption};
+ghost use Rattle.std.specs.Prelude.{◌≡◌, ◌+◌, ◌<◌, ◌^◌, true, option_to_list, IfOk, IfErr, OnOk, MatchOption, MatchResult};
 ghost use Rattle.spl_message.specs.History.{History};
 ghost use Rattle.spl_message.specs.Message.{act_all, settle};
 ghost use Rattle.spl_message.specs.Table.{chain};
 ghost use Rattle.spl_message.specs.declared.call.Call.TheVariants as call;
-ghost use Rattle.spl_branch.specs.Reading.{OnlyReads};
+ghost use Rattle.spl_branch.specs.Reading.{OnlyReads, reach_of};
 ghost use Rattle.spl_descent.specs.Sights.{rest};
 ghost use Rattle.spl_desk.specs.Branches.{branch_kind};
-ghost use Rattle.spl_desk.specs.Calls.{HasCalled, HasSeen, IsSameCaller, Looked, MadeCall, MadeFew, MadeNoCall, MayCall, NeverFell, span_of_key};
-ghost use Rattle.spl_session.specs.Descending.{Arrived, IsFor};
-ghost use Rattle.spl_session.specs.Looking.{HasLookCause, is_last};
+ghost use Rattle.spl_desk.specs.Calls.{HasCalled, HasSeen, IsOnlyCall, IsSameCaller, Looked, MadeCall, MadeFew, MadeNoCall, MayCall, NeverFell, span_of_key};
+ghost use Rattle.spl_desk.specs.Walk.{Went};
+ghost use Rattle.spl_down.specs.Arrivals.{height_in, reach_at};
+ghost use Rattle.spl_down.specs.Descending.{Arrived};
+ghost use Rattle.spl_session.specs.Looking.{HasLookCause, IsFor, is_last};
+ghost use Rattle.spl_session.specs.Reaching.{IsWay, IsWithinReach};
 
 use crate::ask::{ask_branches, ask_slices, is_decided};
-use crate::down::{begin, descend, end};
-use crate::found::{Found, Stopped};
-use crate::steps::abandon;
+use crate::found::Found;
 use spl_branch::Branch;
 use spl_desk::{CallFault, Desk, Turns};
-use spl_message::{Content, HashedKey, Key, MergeLaw, Message, Value, settle};
+use spl_down::{Stopped, abandon, begin, descend, end};
+use spl_message::{Bound, Content, HashedKey, Key, MergeLaw, Message, Span, Value, settle};
 use spl_pager::Pager;
 use spl_port::Port;
 use spl_state::Sight;
@@ -54,8 +56,10 @@ fn find<T: Turns<Branch<P::Seal>>, P: Port, G: Pager, L: MergeLaw>(
         act_all rule key.now None (option_to_list all)
         ≡ act_all rule key.now (rest rule (T.means desk.old.turns).at sight.node key.now) (option_to_list found)) }
     ensures free { OnOk result (MayCall (T.means desk.new.turns)) }
-    ensures walk { (history : History) → T.saw desk.old.turns history → MadeNoCall (branch_kind P.Seal.TELLS)
-        (T.means desk.old.turns) history (T.means desk.new.turns) (T.saw desk.new.turns) }
+    ensures walk { (history : History) → T.saw desk.old.turns history → Went (branch_kind P.Seal.TELLS)
+        (T.means desk.old.turns) history (T.means desk.new.turns) (T.saw desk.new.turns)
+        (λ turns seen. IsWay P.Seal.TELLS key.now (T.means desk.old.turns).actor (P.counts desk.old.port.now) (P.counts desk.new.port.now)
+        0 (height_in (T.means desk.old.turns).at sight + 1) 0 (reach_at reach_of key.now sight) turns) }
     ensures counts { OnlyReads (P.counts desk.old.port.now) (P.counts desk.new.port.now) }
     ensures cause { IfErr result (HasLookCause P.Seal.TELLS (P.counts desk.old.port.now) (P.counts desk.new.port.now)
         (T.means desk.new.turns)) }
@@ -103,8 +107,10 @@ fn value_at<T: Turns<Branch<P::Seal>>, P: Port, G: Pager, L: MergeLaw>(
     ensures value { P.Seal.TELLS ≡ true → IfOk result (λ value. let rule = (T.means desk.old.turns).rule in
         value ≡ act_all rule key.now (rest rule (T.means desk.old.turns).at sight.node key.now) (chain sight.tables key.now)) }
     ensures free { OnOk result (MayCall (T.means desk.new.turns)) }
-    ensures walk { (history : History) → T.saw desk.old.turns history → MadeNoCall (branch_kind P.Seal.TELLS)
-        (T.means desk.old.turns) history (T.means desk.new.turns) (T.saw desk.new.turns) }
+    ensures walk { (history : History) → T.saw desk.old.turns history → Went (branch_kind P.Seal.TELLS)
+        (T.means desk.old.turns) history (T.means desk.new.turns) (T.saw desk.new.turns)
+        (λ turns seen. IsWay P.Seal.TELLS key.now (T.means desk.old.turns).actor (P.counts desk.old.port.now) (P.counts desk.new.port.now)
+        0 (height_in (T.means desk.old.turns).at sight + 1) 0 (reach_at reach_of key.now sight) turns) }
     ensures counts { OnlyReads (P.counts desk.old.port.now) (P.counts desk.new.port.now) }
     ensures cause { IfErr result (HasLookCause P.Seal.TELLS (P.counts desk.old.port.now) (P.counts desk.new.port.now)
         (T.means desk.new.turns)) }
@@ -112,6 +118,16 @@ fn value_at<T: Turns<Branch<P::Seal>>, P: Port, G: Pager, L: MergeLaw>(
     let found = ask_slices(desk.alloc, desk.law, key, &sight.tables)?;
     let all = find(desk, &HashedKey::of(key), sight, found)?;
     Ok(settle(desk.alloc, desk.law, key, all)?)
+}
+
+/// The key's own span.
+fn span_of(key: &Key) -> Span
+    ensures { result ≡ span_of_key key.now }
+{
+    Span {
+        from: Some(*key),
+        to: Some(Bound::after(key)),
+    }
 }
 
 /// The value of the key, at the place that the lookup has in the history of all calls.
@@ -140,11 +156,19 @@ pub fn lookup<T: Turns<Branch<P::Seal>>, P: Port, G: Pager, L: MergeLaw>(
         (MadeNoCall (branch_kind P.Seal.TELLS) (T.means desk.old.turns) history (T.means desk.new.turns) (T.saw desk.new.turns))
         (λ place. MadeCall (branch_kind P.Seal.TELLS) (T.means desk.old.turns) history (T.means desk.new.turns)
         (T.saw desk.new.turns) (call.Piece (span_of_key key.now)) place)) }
+
+    // How many turns it takes, and how many pages it reads.
+    ensures within { (history : History) → T.saw desk.old.turns history → MatchResult result
+        (λ found. Went (branch_kind P.Seal.TELLS) (T.means desk.old.turns) history (T.means desk.new.turns) (T.saw desk.new.turns)
+        (λ turns seen. IsOnlyCall (T.means desk.old.turns).actor history (call.Piece (span_of_key key.now)) found.place turns seen
+        × IsWithinReach P.Seal.TELLS key.now (P.counts desk.old.port.now) (P.counts desk.new.port.now) 0 turns))
+        (λ stopped. Went (branch_kind P.Seal.TELLS) (T.means desk.old.turns) history (T.means desk.new.turns) (T.saw desk.new.turns)
+        (λ turns seen. IsWithinReach P.Seal.TELLS key.now (P.counts desk.old.port.now) (P.counts desk.new.port.now) 1 turns)) }
     ensures port { NeverFell (P.counts desk.old.port.now) (P.counts desk.new.port.now) }
     ensures cause { IfErr result (λ stopped. HasLookCause P.Seal.TELLS (P.counts desk.old.port.now) (P.counts desk.new.port.now)
         (T.means desk.new.turns) stopped.fault) }
 {
-    let sight = match begin(&mut desk.turns, key) {
+    let sight = match begin(&mut desk.turns, &span_of(key)) {
         Ok(sight) => sight,
         Err(fault) => {
             abandon(&mut desk.turns);

@@ -4,13 +4,15 @@ ghost use Rattle.spl_message.specs.declared.call.Call.TheVariants as call;
 ghost use Rattle.spl_state.specs.View.{branch_data};
 ghost use Rattle.spl_desk.specs.Calls.{HasCalled, MadeFew, MadeNoCall, MayCall};
 ghost use Rattle.spl_desk.specs.Holder.{kind_of};
-ghost use Rattle.spl_session.specs.Putting.{AfterTry, AfterAttempt, IsAllFrozen, IsOwnFault};
+ghost use Rattle.spl_down.specs.Descending.{HasTurnCause};
+ghost use Rattle.spl_session.specs.Putting.{AfterTry, AfterAttempt, IsAllFrozen};
 ghost use Rattle.spl_session.specs.Writes.{message_of};
 
 use crate::write::Write;
 use spl_base::NoMemory;
 use spl_core::Step;
 use spl_desk::{CallFault, Turns, take_turn};
+use spl_down::abandon;
 use spl_message::{Content, Key, Message};
 use spl_state::Reply;
 
@@ -71,24 +73,10 @@ pub(crate) fn try_rotate<B: Content, T: Turns<B>>(turns: &mut T) -> Result<bool,
     }
 }
 
-/// Gives back all that the actor has.
-pub(crate) fn abandon<B: Content, T: Turns<B>>(turns: &mut T)
-    requires turns { (T.means turns.old).turns < 2 ^ 41 }
-    requires ready { T.ready turns.old }
-    requires seen { (history : History) × T.saw turns.old history }
-    ensures called { HasCalled (T.means turns.old) (T.means turns.new) }
-    ensures turn { (T.means turns.new).turns ≡ (T.means turns.old).turns + 1 }
-    ensures ready { T.ready turns.new }
-    ensures no_call { (history : History) → T.saw turns.old history → MadeNoCall (kind_of B.number (branch_data B.extents B.entries B.cuts B.table) B.TELLS)
-        (T.means turns.old) history (T.means turns.new) (T.saw turns.new) }
-{
-    let _ = take_turn(turns, Step::Abandon);
-}
-
 /// Stops a call of a holder that has made as many steps as it may.
 pub(crate) fn check_turns<B: Content, T: Turns<B>>(turns: &T) -> Result<(), CallFault>
     ensures ok { OnOk result ((T.means turns.now).turns < 2 ^ 40) }
-    ensures err { IfErr result (IsOwnFault (T.means turns.now)) }
+    ensures err { IfErr result (HasTurnCause (T.means turns.now)) }
 {
     let turns = turns.turns();
     if turns < 1 << 40 {
@@ -116,7 +104,7 @@ fn attempt<B: Content, T: Turns<B>>(
     ensures ok_turns { OnOk result ((T.means turns.old).turns < (T.means turns.new).turns) }
     ensures ok_few { OnOk result ((T.means turns.new).turns ≤ 2 ^ 40) }
     ensures err_few { OnErr result (MadeFew (T.means turns.old) (T.means turns.new) 0) }
-    ensures cause { IfErr result (IsOwnFault (T.means turns.new)) }
+    ensures cause { IfErr result (HasTurnCause (T.means turns.new)) }
 {
     check_turns(turns)?;
     let message = write.message()?;
@@ -149,7 +137,7 @@ pub(crate) fn attempt_or_give_up<B: Content, T: Turns<B>>(
     ensures ok_turns { OnOk result ((T.means turns.old).turns < (T.means turns.new).turns) }
     ensures ok_few { OnOk result ((T.means turns.new).turns ≤ 2 ^ 40) }
     ensures err_few { OnErr result (MadeFew (T.means turns.old) (T.means turns.new) 1) }
-    ensures cause { IfErr result (IsOwnFault (T.means turns.new)) }
+    ensures cause { IfErr result (HasTurnCause (T.means turns.new)) }
 {
     let outcome = attempt(turns, key, write);
     if outcome.is_err() {
