@@ -7,7 +7,7 @@ mod merge;
 mod report;
 
 pub use merge::merge_logs;
-pub use report::{Row, one_report, write_report};
+pub use report::{Row, one_report, push_number, push_row, write_report};
 pub use spl_message::{Answer, Call, Cause, NoMemory};
 
 #[cfg(test)]

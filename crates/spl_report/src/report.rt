@@ -59,7 +59,7 @@ fn push_byte(out: &mut Vec<u8>, byte: u8) -> Result<(), NoMemory>
 }
 
 /// Writes a number in decimal.
-fn push_number(out: &mut Vec<u8>, number: u64) -> Result<(), NoMemory>
+pub fn push_number(out: &mut Vec<u8>, number: u64) -> Result<(), NoMemory>
     ensures { OnOk result (out.new.items ≡ out.old.items ++ decimal number) }
 {
     let mut buffer = Buffer::new();
@@ -182,7 +182,8 @@ fn push_answer(out: &mut Vec<u8>, answer: &Answer) -> Result<(), NoMemory>
     }
 }
 
-fn push_row(out: &mut Vec<u8>, row: &Row) -> Result<(), NoMemory>
+/// Writes a row: a line, and behind it one for each pair of a piece.
+pub fn push_row(out: &mut Vec<u8>, row: &Row) -> Result<(), NoMemory>
     ensures { OnOk result (out.new.items ≡ out.old.items ++ row_text row.now) }
 {
     push_place(out, row.place)?;

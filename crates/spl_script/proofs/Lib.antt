@@ -2,7 +2,6 @@ pub mod Again
 pub mod Callers
 pub mod Canonical
 pub mod Parts
-pub mod PlainLines
 pub mod Readings
 pub mod Seeds
 pub mod Texts

@@ -4,14 +4,10 @@ use Rattle.std.proofs.lemmas.List.{take_all}
 use Rattle.std.proofs.lemmas.List.Quantifiers.{position-Some}
 use Rattle.std.proofs.lemmas.List.Splits.{slice_split_first, slice_split_none}
 use Rattle.std.proofs.lemmas.List.Sums.{position_or_len_is, fails_before_first}
-use Rattle.spl_script.specs.declared.fault.LineWhy.TheVariants.{Caller, Later}
 use Rattle.spl_script.specs.Names.{caller_of}
-use Rattle.spl_script.specs.Line.{is_later, call_of, deed_of, line_of}
-use Rattle.spl_script.specs.Verb.{only, both, fields_of, asked}
-use Rattle.spl_script.specs.Verb.{deed_of as wanted}
-use Rattle.spl_script.specs.Reason.{◌>>=◌ as ◌>>>◌, told as given}
-use Rattle.spl_script.specs.declared.reason.LineWhy.TheVariants.{Caller as BadCaller}
-use Rattle.spl_script.specs.Reading.{◌>>=◌, told}
+use Rattle.spl_script.specs.Verb.{only, both, fields_of, asked, deed_of}
+use Rattle.spl_script.specs.Reason.{◌>>=◌, told}
+use Rattle.spl_script.specs.declared.reason.LineWhy.TheVariants.{Caller}
 use Rattle.std.specs.List.{slice_split, onto_first, position, position_or_len}
 
 pub split_some : (p : ℕ → Bool) (xs : List ℕ) (i : ℕ) → position p xs ≡ Some i → slice_split p xs ≡ take i xs ∷ slice_split p (take (length xs - (i + 1)) (drop (i + 1) xs))
@@ -50,18 +46,9 @@ both_of_one x = refl
 pub both_of_more : (x y : List ℕ) (p : ℕ → Bool) (xs : List ℕ) → both (x ∷ y ∷ slice_split p xs) ≡ None
 both_of_more x y p xs = let parts = first_of_parts p xs in rw parts.2 refl
 
--- a line with a second field, whose first field is no caller
-pub no_caller : (callers : ℕ) (text first : List ℕ) (p : ℕ → Bool) (rest : List ℕ) → is_later text ≡ false → fields_of text ≡ first ∷ slice_split p rest → caller_of callers first ≡ None → line_of callers text ≡ Err Caller
-no_caller callers text first p rest now fields none =
-    let parts = first_of_parts p rest in
-    let split : fields_of text ≡ first ∷ parts.0 ∷ parts.1 = fields ∙ ap (λ r. first ∷ r) parts.2 in
-    ap (λ later. cond later (Err Later) (call_of callers (fields_of text))) now
-    ∙ ap (call_of callers) split
-    ∙ ap (λ o. told Caller o >>= λ caller. deed_of parts.0 parts.1 >>= λ deed. Ok (record { caller = caller; deed = deed })) none
-
-pub asks_no_caller : (callers : ℕ) (text first : List ℕ) (p : ℕ → Bool) (rest : List ℕ) → fields_of text ≡ first ∷ slice_split p rest → caller_of callers first ≡ None → asked callers (fields_of text) ≡ Err BadCaller
+pub asks_no_caller : (callers : ℕ) (text first : List ℕ) (p : ℕ → Bool) (rest : List ℕ) → fields_of text ≡ first ∷ slice_split p rest → caller_of callers first ≡ None → asked callers (fields_of text) ≡ Err Caller
 asks_no_caller callers text first p rest fields none =
     let parts = first_of_parts p rest in
     let split : fields_of text ≡ first ∷ parts.0 ∷ parts.1 = fields ∙ ap (λ r. first ∷ r) parts.2 in
     ap (asked callers) split
-    ∙ ap (λ o. given BadCaller o >>> λ caller. wanted parts.0 parts.1 >>> λ deed. Ok (record { caller = caller; deed = deed })) none
+    ∙ ap (λ o. told Caller o >>= λ caller. deed_of parts.0 parts.1 >>= λ deed. Ok (record { caller = caller; deed = deed })) none

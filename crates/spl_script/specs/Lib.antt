@@ -1,12 +1,7 @@
-pub mod Deed
-pub mod Field
 pub mod Generator
-pub mod Line
 pub mod Lines
 pub mod Names
-pub mod Reading
 pub mod Reason
-pub mod Script
 pub mod Text
 pub mod Verb
 pub mod Writing

@@ -1,0 +1,14 @@
+use Rattle.std.proofs.Common.{◌≡◌, ◌^◌, ◌<◌, true, take}
+use Rattle.std.specs.Char.{is_ascii_digit}
+use Rattle.std.specs.List.{list_all}
+use Rattle.std.specs.Str.Parse.{digits_value}
+use Rattle.spl_words.proofs.number.number_of.Given as goal
+
+-- the digits so far spell the number, which has 64 bits
+abbrev pub invariant-loop-byte : goal.invariant-loop-byte
+invariant-loop-byte l =
+    record {
+      digits : list_all is_ascii_digit (take l.byte-index l.text) ≡ true;
+      value : digits_value 10 (take l.byte-index l.text) ≡ l.number;
+      small : l.number < 2 ^ 64;
+    }
