@@ -1,7 +1,7 @@
-/// What came of merging a run of bundles.
+/// The result of merging a run of bundles.
 #[derive(Clone, Copy, Debug, PartialEq, Eq)]
 pub enum Compacted {
-    /// The merged branch, or nothing, is in the place of the run.
+    /// The merged branch, or nothing, has replaced the run.
     Done,
     /// No node has the run any more.
     Stale,

@@ -18,7 +18,7 @@ use spl_pager::Pager;
 use spl_port::Port;
 use spl_state::Ticket;
 
-/// Merges the run of the ticket, and puts what comes of it in the run's place.
+/// Merges the run of the ticket, and replaces the run by the result.
 fn work<T: Turns<Branch<P::Seal>>, P: Port, G: Pager, L: MergeLaw>(
     desk: &mut Desk<'_, T, P, G, L>,
     ticket: &Ticket<Branch<P::Seal>>,
@@ -41,6 +41,7 @@ fn work<T: Turns<Branch<P::Seal>>, P: Port, G: Pager, L: MergeLaw>(
         → IfOk result (AfterWork (T.means desk.new.turns) least) }
     ensures made { IfOk result (WasEnded (branch_kind P.Seal.TELLS) (T.means desk.old.turns)
         (T.saw desk.old.turns) (T.means desk.new.turns) (T.saw desk.new.turns)) }
+    ensures faults { OnOk result ((P.counts desk.new.port.now).faults ≡ (P.counts desk.old.port.now).faults) }
     ensures cause { IfErr result (HasWorkCause (branch_kind P.Seal.TELLS) (T.means desk.old.turns)
         (T.saw desk.old.turns) (T.means desk.new.turns) (T.saw desk.new.turns)
         (P.counts desk.old.port.now) (P.counts desk.new.port.now)) }
@@ -50,7 +51,7 @@ fn work<T: Turns<Branch<P::Seal>>, P: Port, G: Pager, L: MergeLaw>(
     place(&mut desk.turns, ticket.node, published)
 }
 
-/// Asks for the run, and works on it where the actor gets it.
+/// Asks for the run, and works on it if the actor gets it.
 fn inner<T: Turns<Branch<P::Seal>>, P: Port, G: Pager, L: MergeLaw>(
     desk: &mut Desk<'_, T, P, G, L>,
     node: u32,
@@ -78,6 +79,7 @@ fn inner<T: Turns<Branch<P::Seal>>, P: Port, G: Pager, L: MergeLaw>(
         (T.saw desk.old.turns) (T.means desk.new.turns) (T.saw desk.new.turns) node first last) }
     ensures made { IfOk result (WasCompacted (branch_kind P.Seal.TELLS) (T.means desk.old.turns)
         (T.saw desk.old.turns) (T.means desk.new.turns) (T.saw desk.new.turns) node first last) }
+    ensures faults { OnOk result ((P.counts desk.new.port.now).faults ≡ (P.counts desk.old.port.now).faults) }
     ensures cause { IfErr result (HasWorkCause (branch_kind P.Seal.TELLS) (T.means desk.old.turns)
         (T.saw desk.old.turns) (T.means desk.new.turns) (T.saw desk.new.turns)
         (P.counts desk.old.port.now) (P.counts desk.new.port.now)) }
@@ -91,7 +93,7 @@ fn inner<T: Turns<Branch<P::Seal>>, P: Port, G: Pager, L: MergeLaw>(
     }
 }
 
-/// Merges the run, and gives back what the actor has where the run is stale.
+/// Merges the run, and gives back what the actor has if the run is stale.
 fn attempt<T: Turns<Branch<P::Seal>>, P: Port, G: Pager, L: MergeLaw>(
     desk: &mut Desk<'_, T, P, G, L>,
     node: u32,
@@ -120,6 +122,7 @@ fn attempt<T: Turns<Branch<P::Seal>>, P: Port, G: Pager, L: MergeLaw>(
         (T.saw desk.old.turns) (T.means desk.new.turns) (T.saw desk.new.turns) node first last) }
     ensures made { IfOk result (WasCompacted (branch_kind P.Seal.TELLS) (T.means desk.old.turns)
         (T.saw desk.old.turns) (T.means desk.new.turns) (T.saw desk.new.turns) node first last) }
+    ensures faults { OnOk result ((P.counts desk.new.port.now).faults ≡ (P.counts desk.old.port.now).faults) }
     ensures cause { IfErr result (HasWorkCause (branch_kind P.Seal.TELLS) (T.means desk.old.turns)
         (T.saw desk.old.turns) (T.means desk.new.turns) (T.saw desk.new.turns)
         (P.counts desk.old.port.now) (P.counts desk.new.port.now)) }
@@ -134,7 +137,7 @@ fn attempt<T: Turns<Branch<P::Seal>>, P: Port, G: Pager, L: MergeLaw>(
     }
 }
 
-/// Merges the bundles of the node from `first` up to `last` into one branch, which takes their place. The actor has nothing
+/// Merges the bundles of the node from `first` up to `last` into one branch, which replaces them. The actor has nothing
 /// before and afterwards.
 pub fn compact<T: Turns<Branch<P::Seal>>, P: Port, G: Pager, L: MergeLaw>(
     desk: &mut Desk<'_, T, P, G, L>,
@@ -162,12 +165,13 @@ pub fn compact<T: Turns<Branch<P::Seal>>, P: Port, G: Pager, L: MergeLaw>(
     ensures device { desk.new.port.ghost_name ≡ desk.old.port.ghost_name }
     ensures port { NeverFell (P.counts desk.old.port.now) (P.counts desk.new.port.now) }
 
-    // A turn of this call asked for this run; and one served the last node that had the run, or found no node with it, or
-    // refused it.
+    // A turn of this call asked for this run; and one served the last node that had the run, or found no node with it,
+    // or refused it.
     ensures asked { OnOk result (WasAskedFor (branch_kind P.Seal.TELLS) (T.means desk.old.turns)
         (T.saw desk.old.turns) (T.means desk.new.turns) (T.saw desk.new.turns) node first last) }
     ensures made { IfOk result (WasCompacted (branch_kind P.Seal.TELLS) (T.means desk.old.turns)
         (T.saw desk.old.turns) (T.means desk.new.turns) (T.saw desk.new.turns) node first last) }
+    ensures faults { OnOk result ((P.counts desk.new.port.now).faults ≡ (P.counts desk.old.port.now).faults) }
     ensures cause { IfErr result (HasWorkCause (branch_kind P.Seal.TELLS) (T.means desk.old.turns)
         (T.saw desk.old.turns) (T.means desk.new.turns) (T.saw desk.new.turns)
         (P.counts desk.old.port.now) (P.counts desk.new.port.now)) }

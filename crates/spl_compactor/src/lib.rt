@@ -1,12 +1,12 @@
-//! A worker's job that merges: the bundles of a node from one up to another become one branch, which takes their place.
+//! A worker's job that merges: the bundles of a node from one up to another become one branch, which replaces them.
 //!
-//! A ticket gives the actor the run and its branches. They are merged entry by entry into a new one, page by page, in extents
-//! that are granted only where the next page needs one; other actors go on meanwhile. Then the branch is published, and put
-//! in the place of the run in each node that has it, one node after the other: the node may have been split since. Where
-//! nothing is left of the merged branches, as where deletes meet the bottom of the trunk, no branch is made and the run goes
-//! away.
+//! A ticket gives the actor the run and its branches. They are merged entry by entry into a new one, page by page, in
+//! extents that are granted only when the next page needs one; other actors go on meanwhile. Then the branch is
+//! published, and replaces the run in each node that has it, one node after the other: the node may have been split
+//! since. If the merge leaves nothing, for example only deletes at the bottom of the trunk, no branch is made and the
+//! run is dropped.
 //!
-//! A job that stops gives back all that its actor has, and so the run can be merged again.
+//! A job that stops gives back all that its actor has, so the run can be merged again.
 #![tactic(auto)]
 
 mod compacted;

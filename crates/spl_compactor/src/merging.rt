@@ -24,7 +24,7 @@ use spl_streams::Merged;
 use std::alloc::Global;
 use std::sync::Arc;
 
-/// What a branch's fault is to a call.
+/// The fault of a call for a fault of a branch.
 fn fault_of(fault: BranchFault) -> CallFault
     ensures { result ≡ of_branch fault }
 {
@@ -59,6 +59,7 @@ fn next_entry<P: Port, G: Pager, L: MergeLaw>(
     ensures kept { OnOk result (Keeps merged.old merged.new) }
     ensures sound { OnOk result (merged.new.failed ≡ false) }
     ensures counts { NeverFell (P.counts port.old) (P.counts port.new) }
+    ensures faults { OnOk result ((P.counts port.new).faults ≡ (P.counts port.old).faults) }
     ensures cause { IfErr result (HasReadCause P.Seal.TELLS (P.counts port.old) (P.counts port.new)) }
 {
     match merged.next(port, pager, law) {
@@ -67,7 +68,7 @@ fn next_entry<P: Port, G: Pager, L: MergeLaw>(
     }
 }
 
-/// Moves the next entry of the merge into the branch. Answers `false` where there is none.
+/// Moves the next entry of the merge into the branch. Returns `false` if there is none.
 fn merge_once<P: Port, T: Turns<Branch<P::Seal>>, G: Pager, L: MergeLaw>(
     turns: &mut T,
     port: &mut P,
@@ -94,6 +95,7 @@ fn merge_once<P: Port, T: Turns<Branch<P::Seal>>, G: Pager, L: MergeLaw>(
         → IsUnderWay P.Seal.TELLS (T.means turns.old) least builder.old merged.old
         → IsMergedOut P.Seal.TELLS (T.means turns.new) least builder.new }
     ensures port { NeverFell (P.counts port.old) (P.counts port.new) }
+    ensures faults { OnOk result ((P.counts port.new).faults ≡ (P.counts port.old).faults) }
     ensures cause { IfErr result (HasWorkCause (branch_kind P.Seal.TELLS) (T.means turns.old) (T.saw turns.old)
         (T.means turns.new) (T.saw turns.new) (P.counts port.old) (P.counts port.new)) }
 {
@@ -129,6 +131,7 @@ fn merge_all<P: Port, T: Turns<Branch<P::Seal>>, G: Pager, L: MergeLaw>(
         → IsUnderWay P.Seal.TELLS (T.means turns.old) least builder.old merged.old
         → IsMergedOut P.Seal.TELLS (T.means turns.new) least builder.new) }
     ensures port { NeverFell (P.counts port.old) (P.counts port.new) }
+    ensures faults { OnOk result ((P.counts port.new).faults ≡ (P.counts port.old).faults) }
     ensures cause { IfErr result (HasWorkCause (branch_kind P.Seal.TELLS) (T.means turns.old) (T.saw turns.old)
         (T.means turns.new) (T.saw turns.new) (P.counts port.old) (P.counts port.new)) }
 {
@@ -139,7 +142,7 @@ fn merge_all<P: Port, T: Turns<Branch<P::Seal>>, G: Pager, L: MergeLaw>(
     }
 }
 
-/// Writes what is left of the branch, where it has an entry.
+/// Writes the rest of the branch, if it has an entry.
 fn write_out<P: Port, T: Turns<Branch<P::Seal>>>(
     turns: &mut T,
     port: &mut P,
@@ -156,13 +159,14 @@ fn write_out<P: Port, T: Turns<Branch<P::Seal>>>(
     ensures written { (least : ℕ) → IsMergedOut P.Seal.TELLS (T.means turns.old) least builder.old
         → IfOk result (IsWritten P.Seal.TELLS (T.means turns.new) least) }
     ensures port { NeverFell (P.counts port.old) (P.counts port.new) }
+    ensures faults { OnOk result ((P.counts port.new).faults ≡ (P.counts port.old).faults) }
     ensures cause { IfErr result (HasWorkCause (branch_kind P.Seal.TELLS) (T.means turns.old) (T.saw turns.old)
         (T.means turns.new) (T.saw turns.new) (P.counts port.old) (P.counts port.new)) }
 {
     finish(turns, port, builder)
 }
 
-/// Merges the branches of the ticket into one, which is written. Answers none where they merge to nothing.
+/// Merges the branches of the ticket into one, which is written. Returns none if they merge to nothing.
 pub(crate) fn merge<T: Turns<Branch<P::Seal>>, P: Port, G: Pager, L: MergeLaw>(
     desk: &mut Desk<'_, T, P, G, L>,
     ticket: &Ticket<Branch<P::Seal>>,
@@ -183,6 +187,7 @@ pub(crate) fn merge<T: Turns<Branch<P::Seal>>, P: Port, G: Pager, L: MergeLaw>(
     ensures port { NeverFell (P.counts desk.old.port.now) (P.counts desk.new.port.now) }
     ensures written { (least : ℕ) → IsStarted (T.means desk.old.turns) least ticket.now
         → IfOk result (IsWritten P.Seal.TELLS (T.means desk.new.turns) least) }
+    ensures faults { OnOk result ((P.counts desk.new.port.now).faults ≡ (P.counts desk.old.port.now).faults) }
     ensures cause { IfErr result (HasWorkCause (branch_kind P.Seal.TELLS) (T.means desk.old.turns)
         (T.saw desk.old.turns) (T.means desk.new.turns) (T.saw desk.new.turns)
         (P.counts desk.old.port.now) (P.counts desk.new.port.now)) }
@@ -202,14 +207,14 @@ pub(crate) fn merge<T: Turns<Branch<P::Seal>>, P: Port, G: Pager, L: MergeLaw>(
     write_out(&mut desk.turns, desk.port, &mut builder)
 }
 
-/// The branch where many can share it.
+/// The branch as a shared pointer.
 fn shared<S: Seal>(alloc: Global, branch: Branch<S>) -> Result<Arc<Branch<S>>, NoMemory>
     ensures { IfOk result (λ shared. shared.value ≡ branch) }
 {
     Ok(Arc::new(alloc, branch)?)
 }
 
-/// Publishes the branch, where there is one.
+/// Publishes the branch, if there is one.
 pub(crate) fn publish_output<S: Seal, T: Turns<Branch<S>>>(
     alloc: Global,
     turns: &mut T,

@@ -1,5 +1,5 @@
 //! How what was merged comes to the place of its run.
-ghost use Rattle.std.specs.Prelude.{◌≡◌, ℕ, ◌<◌, ◌^◌, true, IfErr, IfOk, IfSome, OnOk};
+ghost use Rattle.std.specs.Prelude.{◌≡◌, ℕ, ◌+◌, ◌<◌, ◌≤◌, ◌^◌, true, IfErr, IfOk, IfSome, OnOk};
 ghost use Rattle.spl_holds.specs.declared.grip.Grip.TheVariants as grip;
 ghost use Rattle.spl_holds.specs.Grip.{may_write};
 ghost use Rattle.spl_state.specs.View.{branch_data};
@@ -43,6 +43,7 @@ fn leave<B: Content, T: Turns<B>>(turns: &mut T, node: u32) -> Result<(), CallFa
     ensures leaves { OnOk result ((holding : Holding) → IsHolding (T.means turns.old) holding
         → IsHolding (T.means turns.new) (with_grip holding node grip.Free)) }
     ensures left { OnOk result ((T.means turns.old).turns < (T.means turns.new).turns) }
+    ensures most { (T.means turns.new).turns ≤ (T.means turns.old).turns + 1 }
     ensures cause { IfErr result (HasTurnCause (T.means turns.new)) }
 {
     check_turns(turns)?;
@@ -70,6 +71,7 @@ fn place_in<B: Content, T: Turns<B>>(
         (kind_of B.number (branch_data B.extents B.entries B.cuts B.table) B.TELLS)
         (T.means turns.old) (T.saw turns.old) (T.means turns.new) (T.saw turns.new))) }
     ensures left { OnOk result ((T.means turns.old).turns < (T.means turns.new).turns) }
+    ensures most { (T.means turns.new).turns ≤ (T.means turns.old).turns + 2 }
     ensures cause { IfErr result (HasTurnCause (T.means turns.new)) }
 {
     check_turns(turns)?;
@@ -111,6 +113,7 @@ fn place_once<B: Content, T: Turns<B>>(
         (kind_of B.number (branch_data B.extents B.entries B.cuts B.table) B.TELLS)
         (T.means turns.old) (T.saw turns.old) (T.means turns.new) (T.saw turns.new))) }
     ensures left { OnOk result ((T.means turns.old).turns < (T.means turns.new).turns) }
+    ensures most { (T.means turns.new).turns ≤ (T.means turns.old).turns + 5 }
     ensures cause { IfErr result (HasTurnCause (T.means turns.new)) }
 {
     if enter(turns, node)? {

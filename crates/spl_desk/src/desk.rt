@@ -1,6 +1,7 @@
 use std::alloc::Global;
 
-/// What a call of the store works with: the turns of one actor, the device of its thread, what stands between the two, and the law.
+/// What a call of the store works with: the turns of one actor, the device of its thread, the pager that reads it, and
+/// the law.
 #[derive(Drop)]
 pub struct Desk<'a, T, P, G, L> {
     pub alloc: Global,

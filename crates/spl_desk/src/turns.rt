@@ -17,7 +17,8 @@ pub struct Exchange<B: Content> {
     pub reply: Option<Reply<B>>,
 }
 
-/// A holder of turns of a core: it makes one step at a time, as one actor, and knows the history of calls that it has seen.
+/// A holder of turns of a core: it makes one step at a time, as one actor, and knows the history of calls that it has
+/// seen.
 pub trait Turns<B: Content>: Drop {
     ghost means: { Self → Holder };
 
@@ -36,8 +37,8 @@ pub trait Turns<B: Content>: Drop {
     fn turns(&self) -> u64
         ensures { result ≡ (means self.now).turns };
 
-    /// Makes the step of the exchange, and puts its answer there. Call `take_turn`, which hands the answer out: a method of a
-    /// trait can't take the one and give the other by value.
+    /// Makes the step of the exchange, and puts its answer there. Call `take_turn`, which returns the answer: a method
+    /// of a trait can't take a step and return an answer by value.
     fn step(&mut self, exchange: &mut Exchange<B>)
         requires turns { (means self.old).turns < 2 ^ 41 }
         requires ready { ready self.old }
@@ -55,7 +56,7 @@ pub trait Turns<B: Content>: Drop {
             (means self.old) (means self.new) history step reply (saw self.new))) };
 }
 
-/// Makes one step, and gives its answer.
+/// Makes one step, and returns its answer.
 pub fn take_turn<B: Content, T: Turns<B>>(turns: &mut T, step: Step<B>) -> Reply<B>
     requires turns { (T.means turns.old).turns < 2 ^ 41 }
     requires ready { T.ready turns.old }

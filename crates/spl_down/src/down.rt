@@ -1,4 +1,4 @@
-//! The steps of a descent: each is made again until it is not refused.
+//! The steps of a descent: each is retried while it is refused.
 ghost use Rattle.std.specs.Prelude.{◌≡◌, ◌<◌, ◌≤◌, ◌^◌, [], ◌∷◌, false, IfOk, IfErr, OnOk, IsOk, MatchResult};
 ghost use Rattle.spl_message.specs.History.{History};
 ghost use Rattle.spl_state.specs.View.{branch_data};
@@ -18,7 +18,7 @@ const MOST_TURNS: u64 = 1 << 40;
 
 const _: () = prove!(MOST_TURNS == 1_099_511_627_776);
 
-/// The sight that a step of a descent was answered, and none where it has to be made again.
+/// The sight that a step of a descent was answered, or none if the step has to be retried.
 fn seen_in<B: Content>(reply: Reply<B>) -> Result<Option<Sight<B>>, NoMemory>
     requires { MaySee reply }
     ensures { IsAnswer reply result }
@@ -31,7 +31,7 @@ fn seen_in<B: Content>(reply: Reply<B>) -> Result<Option<Sight<B>>, NoMemory>
     }
 }
 
-/// Begins a descent over the span, where the root is not written.
+/// Begins a descent over the span, if nobody writes the root.
 fn begin_once<B: Content, T: Turns<B>>(
     turns: &mut T,
     span: &Span,
@@ -57,7 +57,7 @@ fn begin_once<B: Content, T: Turns<B>>(
     seen_in(take_turn(turns, Step::Begin { span: *span }))
 }
 
-/// Begins a descent over the span. It has a place where it has a sight, and then it is its only call.
+/// Begins a descent over the span. If it returns a sight it has a place, and has made no other call.
 pub fn begin<B: Content, T: Turns<B>>(turns: &mut T, span: &Span) -> Result<Sight<B>, CallFault>
     requires turns { (T.means turns.old).turns < 2 ^ 41 }
     requires ready { T.ready turns.old }
@@ -87,7 +87,7 @@ pub fn begin<B: Content, T: Turns<B>>(turns: &mut T, span: &Span) -> Result<Sigh
     })
 }
 
-/// Goes on to the child, where it is not written.
+/// Goes on to the child, if nobody writes it.
 fn descend_once<B: Content, T: Turns<B>>(
     turns: &mut T,
     sight: &Sight<B>,
@@ -152,7 +152,7 @@ pub fn descend<B: Content, T: Turns<B>>(
     })
 }
 
-/// Ends the descent. Where it is ended, its actor has nothing again.
+/// Ends the descent. If that succeeds, its actor has nothing again.
 pub fn end<B: Content, T: Turns<B>>(turns: &mut T, sight: &Sight<B>) -> Result<(), CallFault>
     requires turns { (T.means turns.old).turns < 2 ^ 41 }
     requires ready { T.ready turns.old }

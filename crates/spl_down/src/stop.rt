@@ -15,7 +15,7 @@ use std::fmt;
 #[derive(Clone, Copy, Debug, PartialEq, Eq)]
 pub struct Stopped {
     pub fault: CallFault,
-    /// The place that its descent has, where that had begun.
+    /// The place of its descent, if that had begun.
     pub place: Option<u64>,
 }
 

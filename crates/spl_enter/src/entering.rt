@@ -1,4 +1,4 @@
-ghost use Rattle.std.specs.Prelude.{◌≡◌, ◌≢◌, ◌<◌, ◌^◌, false, if◌then◌else◌, Ok, IfErr, IfOk, OnOk};
+ghost use Rattle.std.specs.Prelude.{◌≡◌, ◌≢◌, ◌+◌, ◌<◌, ◌≤◌, ◌^◌, false, true, if◌then◌else◌, Ok, IfErr, IfOk, OnOk};
 ghost use Rattle.spl_message.specs.History.{History};
 ghost use Rattle.spl_holds.specs.declared.grip.Grip.TheVariants as grip;
 ghost use Rattle.spl_state.specs.View.{branch_data};
@@ -15,7 +15,7 @@ use spl_desk::{CallFault, Turns};
 use spl_job::steps::{claim, lock, unlock};
 use spl_message::Content;
 
-/// Makes the claim on the node a write. Answers `false` where somebody reads the node, and then ends the claim.
+/// Makes the claim on the node a write. If somebody reads the node, it ends the claim and returns `false`.
 fn raise<B: Content, T: Turns<B>>(turns: &mut T, node: u32) -> Result<bool, CallFault>
     requires turns { (T.means turns.old).turns < 2 ^ 41 }
     requires ready { T.ready turns.old }
@@ -31,6 +31,10 @@ fn raise<B: Content, T: Turns<B>>(turns: &mut T, node: u32) -> Result<bool, Call
         (kind_of B.number (branch_data B.extents B.entries B.cuts B.table) B.TELLS)
         (T.means turns.old) history (T.means turns.new) (T.saw turns.new) (IsLockTurn node false) }
     ensures left { OnOk result ((T.means turns.old).turns < (T.means turns.new).turns) }
+
+    // Nothing is waited for.
+    ensures made_most { result ≡ Ok true → (T.means turns.new).turns ≤ (T.means turns.old).turns + 1 }
+    ensures most { (T.means turns.new).turns ≤ (T.means turns.old).turns + 2 }
     ensures cause { IfErr result (HasTurnCause (T.means turns.new)) }
 {
     check_turns(turns)?;
@@ -42,7 +46,7 @@ fn raise<B: Content, T: Turns<B>>(turns: &mut T, node: u32) -> Result<bool, Call
     Ok(false)
 }
 
-/// Takes the write on the node. Answers `false` where somebody else is in the way, and then keeps nothing of the node.
+/// Takes the write latch of the node. If another actor's latch is in the way, it keeps nothing and returns `false`.
 pub fn enter<B: Content, T: Turns<B>>(turns: &mut T, node: u32) -> Result<bool, CallFault>
     requires turns { (T.means turns.old).turns < 2 ^ 41 }
     requires ready { T.ready turns.old }
@@ -59,6 +63,10 @@ pub fn enter<B: Content, T: Turns<B>>(turns: &mut T, node: u32) -> Result<bool, 
         (kind_of B.number (branch_data B.extents B.entries B.cuts B.table) B.TELLS)
         (T.means turns.old) history (T.means turns.new) (T.saw turns.new) (IsRefusal node) }
     ensures left { OnOk result ((T.means turns.old).turns < (T.means turns.new).turns) }
+
+    // Nothing is waited for.
+    ensures made_most { result ≡ Ok true → (T.means turns.new).turns ≤ (T.means turns.old).turns + 2 }
+    ensures most { (T.means turns.new).turns ≤ (T.means turns.old).turns + 3 }
     ensures cause { IfErr result (HasTurnCause (T.means turns.new)) }
 {
     check_turns(turns)?;
@@ -69,8 +77,8 @@ pub fn enter<B: Content, T: Turns<B>>(turns: &mut T, node: u32) -> Result<bool, 
     }
 }
 
-/// Takes the write on the one node, and then on the other. Answers `false` where somebody else is in the way, and then keeps nothing of
-/// either.
+/// Takes the write latch of the parent, and then that of the child. If another actor's latch is in the way, it
+/// keeps neither and returns `false`.
 pub fn enter_both<B: Content, T: Turns<B>>(
     turns: &mut T,
     parent: u32,
@@ -94,6 +102,10 @@ pub fn enter_both<B: Content, T: Turns<B>>(
         (kind_of B.number (branch_data B.extents B.entries B.cuts B.table) B.TELLS)
         (T.means turns.old) history (T.means turns.new) (T.saw turns.new) (IsRefusalOf parent child) }
     ensures left { OnOk result ((T.means turns.old).turns < (T.means turns.new).turns) }
+
+    // Nothing is waited for.
+    ensures made_most { result ≡ Ok true → (T.means turns.new).turns ≤ (T.means turns.old).turns + 4 }
+    ensures most { (T.means turns.new).turns ≤ (T.means turns.old).turns + 6 }
     ensures cause { IfErr result (HasTurnCause (T.means turns.new)) }
 {
     if !enter(turns, parent)? {

@@ -1,7 +1,7 @@
-/// What came of passing on to a child what is live for it in the parent.
+/// The result of a flush to a child.
 #[derive(Clone, Copy, Debug, PartialEq, Eq)]
 pub enum Flushed {
-    /// It is the newest bundle of the child.
+    /// What was live for the child is its newest bundle.
     Done,
     /// The child has as many bundles as it can have.
     NeedsRoom,
@@ -9,6 +9,6 @@ pub enum Flushed {
     NeedsCompact { branches: u32 },
     /// The parent does not lead to the child.
     Moved,
-    /// Somebody else was in the way at one of the two nodes.
+    /// Another actor's latch on one of the two nodes was in the way.
     Busy,
 }

@@ -1,4 +1,4 @@
-ghost use Rattle.std.specs.Prelude.{◌≡◌, ◌≢◌, ◌<◌, ◌≤◌, ◌^◌, IfErr, IfOk, OnErr, OnOk};
+ghost use Rattle.std.specs.Prelude.{◌≡◌, ◌≢◌, ◌+◌, ◌<◌, ◌≤◌, ◌^◌, IfErr, IfOk, OnErr, OnOk};
 ghost use Rattle.spl_message.specs.History.{History};
 ghost use Rattle.spl_state.specs.View.{branch_data};
 ghost use Rattle.spl_desk.specs.Calls.{HasSeen, MadeFew, MayCall};
@@ -15,8 +15,8 @@ use spl_job::flushing::{Flushing, flush};
 use spl_job::steps::abandon;
 use spl_message::Content;
 
-/// Takes the write on both nodes and passes the bundles on. Answers none where somebody was in the way; else it stops where no step is
-/// left to give back the latches.
+/// Takes the write latches of both nodes and flushes. Returns none if another actor's latch was in the way. It stops if
+/// the holder has no steps left to give back the latches.
 fn try_flush<B: Content, T: Turns<B>>(
     turns: &mut T,
     parent: u32,
@@ -32,6 +32,7 @@ fn try_flush<B: Content, T: Turns<B>>(
     ensures few { MadeFew (T.means turns.old) (T.means turns.new) 0 }
     ensures ready { T.ready turns.new }
     ensures left { OnOk result ((T.means turns.old).turns < (T.means turns.new).turns) }
+    ensures most { (T.means turns.new).turns ≤ (T.means turns.old).turns + 7 }
     ensures after { AfterTry (T.means turns.new) result }
     ensures told { OnOk result (told_by (T.means turns.new) ≡ told_by (T.means turns.old)) }
     ensures made { (history : History) → T.saw turns.old history → IfOk result (λ tried. WasMade
@@ -48,7 +49,7 @@ fn try_flush<B: Content, T: Turns<B>>(
     Ok(Some(flushing))
 }
 
-/// What comes of the job where the step came to this.
+/// The result of the job for this result of the step.
 fn outcome_of(flushing: Flushing) -> Flushed
     ensures { result ≡ outcome_of flushing }
 {
@@ -60,7 +61,8 @@ fn outcome_of(flushing: Flushing) -> Flushed
     }
 }
 
-/// Passes on to the child what is live for it in the parent, as far as that goes. Afterwards the actor has nothing, however it ends.
+/// Flushes to the child what is live for it in the parent, if that is possible. However it ends, the actor has nothing
+/// afterwards.
 pub fn flush_to<B: Content, T: Turns<B>>(
     turns: &mut T,
     parent: u32,
@@ -78,6 +80,9 @@ pub fn flush_to<B: Content, T: Turns<B>>(
     ensures ok_few { OnOk result (MadeFew (T.means turns.old) (T.means turns.new) 0) }
     ensures err_few { OnErr result (MadeFew (T.means turns.old) (T.means turns.new) 1) }
     ensures left { OnOk result ((T.means turns.old).turns < (T.means turns.new).turns) }
+
+    // Nothing is waited for.
+    ensures most { (T.means turns.new).turns ≤ (T.means turns.old).turns + 8 }
     ensures told { OnOk result (told_by (T.means turns.old) ≤ told_by (T.means turns.new)) }
     ensures made { (history : History) → T.saw turns.old history → IfOk result (λ flushed. WasMade
         (kind_of B.number (branch_data B.extents B.entries B.cuts B.table) B.TELLS)

@@ -1,8 +1,8 @@
-//! A worker's job that passes bundles on: what is live for a child in its parent becomes the newest bundle of the child.
+//! A worker's job that flushes: what is live for a child in its parent becomes the newest bundle of the child.
 //!
-//! The actor writes both nodes for that one step, the parent first. Where somebody is in the way of the one or the other, it keeps nothing
-//! of either while it waits. Where the child has no room, or the branches are too many for one bundle, the answer says so, and what is to
-//! be done first is another job's.
+//! The actor takes the write latches of both nodes for that one step, the parent's first. If another actor's latch is
+//! in the way of either, it keeps neither while it waits. If the child has no room, or the branches are too many for
+//! one bundle, the answer says so, and another job has to make room or merge first.
 //!
 //! However the job ends, the actor has nothing afterwards.
 #![tactic(auto)]

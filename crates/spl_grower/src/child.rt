@@ -1,5 +1,5 @@
 //! How a child is split.
-ghost use Rattle.std.specs.Prelude.{◌≡◌, ◌≢◌, ◌<◌, ◌≤◌, ◌^◌, IfErr, IfOk, OnErr, OnOk};
+ghost use Rattle.std.specs.Prelude.{◌≡◌, ◌≢◌, ◌+◌, ◌<◌, ◌≤◌, ◌^◌, IfErr, IfOk, OnErr, OnOk};
 ghost use Rattle.spl_message.specs.History.{History};
 ghost use Rattle.spl_holds.specs.declared.grip.Grip.TheVariants as grip;
 ghost use Rattle.spl_state.specs.View.{branch_data};
@@ -18,7 +18,7 @@ use spl_job::merging::survey;
 use spl_job::steps::abandon;
 use spl_message::Content;
 
-/// Splits the child, where it is to be split. The actor writes it and its parent.
+/// Splits the child, if it is to be split. The actor writes it and its parent.
 fn split_due<B: Content, T: Turns<B>>(
     turns: &mut T,
     parent: u32,
@@ -34,6 +34,7 @@ fn split_due<B: Content, T: Turns<B>>(
     ensures few { MadeFew (T.means turns.old) (T.means turns.new) 0 }
     ensures ready { T.ready turns.new }
     ensures left { OnOk result ((T.means turns.old).turns < (T.means turns.new).turns) }
+    ensures most { (T.means turns.new).turns ≤ (T.means turns.old).turns + 2 }
     ensures told { OnOk result (told_by (T.means turns.old) ≤ told_by (T.means turns.new)) }
     ensures made { (history : History) → T.saw turns.old history → IfOk result (λ grown. WasMade
         (kind_of B.number (branch_data B.extents B.entries B.cuts B.table) B.TELLS)
@@ -56,7 +57,7 @@ fn split_due<B: Content, T: Turns<B>>(
     }
 }
 
-/// Comes to write the child and its parent, and splits the child where it is to be split.
+/// Takes the write latches of the parent and the child, and splits the child if it is to be split.
 fn enter_and_split<B: Content, T: Turns<B>>(
     turns: &mut T,
     parent: u32,
@@ -74,6 +75,7 @@ fn enter_and_split<B: Content, T: Turns<B>>(
     ensures few { MadeFew (T.means turns.old) (T.means turns.new) 0 }
     ensures ready { T.ready turns.new }
     ensures left { OnOk result ((T.means turns.old).turns < (T.means turns.new).turns) }
+    ensures most { (T.means turns.new).turns ≤ (T.means turns.old).turns + 6 }
     ensures told { OnOk result (told_by (T.means turns.old) ≤ told_by (T.means turns.new)) }
     ensures made { (history : History) → T.saw turns.old history → IfOk result (λ grown. WasMade
         (kind_of B.number (branch_data B.extents B.entries B.cuts B.table) B.TELLS)
@@ -88,7 +90,7 @@ fn enter_and_split<B: Content, T: Turns<B>>(
     }
 }
 
-/// Does the same, and stops where no step is left to give back what the actor has.
+/// Does the same, and stops if the holder has no steps left to give back what the actor has.
 fn split_or_stop<B: Content, T: Turns<B>>(
     turns: &mut T,
     parent: u32,
@@ -106,6 +108,7 @@ fn split_or_stop<B: Content, T: Turns<B>>(
     ensures few { MadeFew (T.means turns.old) (T.means turns.new) 0 }
     ensures ready { T.ready turns.new }
     ensures left { OnOk result ((T.means turns.old).turns < (T.means turns.new).turns) }
+    ensures most { (T.means turns.new).turns ≤ (T.means turns.old).turns + 6 }
     ensures told { OnOk result (told_by (T.means turns.old) ≤ told_by (T.means turns.new)) }
     ensures room { OnOk result ((T.means turns.new).turns < 2 ^ 40) }
     ensures made { (history : History) → T.saw turns.old history → IfOk result (λ grown. WasMade
@@ -119,7 +122,8 @@ fn split_or_stop<B: Content, T: Turns<B>>(
     Ok(grown)
 }
 
-/// Splits the child in two, where it is to be split; the parent leads to both parts. Afterwards the actor has nothing, however it ends.
+/// Splits the child in two, if it is to be split; the parent then leads to both parts. However it ends, the actor has
+/// nothing afterwards.
 pub fn split_child<B: Content, T: Turns<B>>(
     turns: &mut T,
     parent: u32,
@@ -139,9 +143,12 @@ pub fn split_child<B: Content, T: Turns<B>>(
     ensures ok_few { OnOk result (MadeFew (T.means turns.old) (T.means turns.new) 0) }
     ensures err_few { OnErr result (MadeFew (T.means turns.old) (T.means turns.new) 1) }
     ensures left { OnOk result ((T.means turns.old).turns < (T.means turns.new).turns) }
+
+    // Nothing is waited for.
+    ensures most { (T.means turns.new).turns ≤ (T.means turns.old).turns + 7 }
     ensures told { OnOk result (told_by (T.means turns.old) ≤ told_by (T.means turns.new)) }
 
-    // A turn of this call says what came of it.
+    // A turn of this call shows the result.
     ensures made { (history : History) → T.saw turns.old history → IfOk result (λ grown. WasMade
         (kind_of B.number (branch_data B.extents B.entries B.cuts B.table) B.TELLS)
         (T.means turns.old) history (T.means turns.new) (T.saw turns.new) (IsChildEnd parent child grown)) }

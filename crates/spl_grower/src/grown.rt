@@ -1,7 +1,7 @@
-/// What came of letting the trunk grow.
+/// The result of letting the trunk grow.
 #[derive(Clone, Copy, Debug, PartialEq, Eq)]
 pub enum Grown {
-    /// There is one node more.
+    /// There is one more node.
     Done,
     /// The node is not to be split.
     Unneeded,
@@ -9,6 +9,6 @@ pub enum Grown {
     Full,
     /// The parent does not lead to the child.
     Moved,
-    /// Somebody was in the way.
+    /// Another actor's latch was in the way.
     Busy,
 }

@@ -1,9 +1,9 @@
 //! A worker's jobs by which the trunk grows: the root is raised over a new node, or a child is split in two.
 //!
-//! Whether a node is to be split is seen only once the actor writes it. There are only so many nodes, and so none is made where it is no
-//! longer needed, as where another actor has split the node meanwhile.
+//! Whether a node is to be split is seen only once the actor writes it. There are at most 4,096 nodes, so none is made
+//! if it is no longer needed, for example because another actor has split the node meanwhile.
 //!
-//! A job gives back all that its actor has, whatever comes of it.
+//! However a job ends, its actor has nothing afterwards.
 #![tactic(auto)]
 
 mod child;

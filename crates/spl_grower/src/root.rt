@@ -1,5 +1,5 @@
 //! How the root is raised.
-ghost use Rattle.std.specs.Prelude.{◌≡◌, ◌<◌, ◌≤◌, ◌^◌, IfErr, IfOk, OnErr, OnOk};
+ghost use Rattle.std.specs.Prelude.{◌≡◌, ◌+◌, ◌<◌, ◌≤◌, ◌^◌, IfErr, IfOk, OnErr, OnOk};
 ghost use Rattle.spl_message.specs.History.{History};
 ghost use Rattle.spl_holds.specs.declared.grip.Grip.TheVariants as grip;
 ghost use Rattle.spl_state.specs.View.{branch_data};
@@ -21,7 +21,7 @@ use spl_message::Content;
 /// The root of the trunk.
 const ROOT: u32 = 0;
 
-/// Raises the root, which the actor writes, where it is to be split.
+/// Raises the root, which the actor writes, if it is to be split.
 fn raise_due<B: Content, T: Turns<B>>(turns: &mut T) -> Result<Grown, CallFault>
     requires turns { (T.means turns.old).turns < 2 ^ 41 }
     requires ready { T.ready turns.old }
@@ -32,6 +32,7 @@ fn raise_due<B: Content, T: Turns<B>>(turns: &mut T) -> Result<Grown, CallFault>
     ensures few { MadeFew (T.means turns.old) (T.means turns.new) 0 }
     ensures ready { T.ready turns.new }
     ensures left { OnOk result ((T.means turns.old).turns < (T.means turns.new).turns) }
+    ensures most { (T.means turns.new).turns ≤ (T.means turns.old).turns + 2 }
     ensures told { OnOk result (told_by (T.means turns.old) ≤ told_by (T.means turns.new)) }
     ensures made { (history : History) → T.saw turns.old history → IfOk result (λ grown. WasMade
         (kind_of B.number (branch_data B.extents B.entries B.cuts B.table) B.TELLS)
@@ -51,7 +52,7 @@ fn raise_due<B: Content, T: Turns<B>>(turns: &mut T) -> Result<Grown, CallFault>
     }
 }
 
-/// Comes to write the root, and raises it where it is to be split.
+/// Takes the write latch of the root, and raises it if it is to be split.
 fn enter_and_raise<B: Content, T: Turns<B>>(turns: &mut T) -> Result<Grown, CallFault>
     requires turns { (T.means turns.old).turns < 2 ^ 41 }
     requires ready { T.ready turns.old }
@@ -63,6 +64,7 @@ fn enter_and_raise<B: Content, T: Turns<B>>(turns: &mut T) -> Result<Grown, Call
     ensures few { MadeFew (T.means turns.old) (T.means turns.new) 0 }
     ensures ready { T.ready turns.new }
     ensures left { OnOk result ((T.means turns.old).turns < (T.means turns.new).turns) }
+    ensures most { (T.means turns.new).turns ≤ (T.means turns.old).turns + 4 }
     ensures told { OnOk result (told_by (T.means turns.old) ≤ told_by (T.means turns.new)) }
     ensures made { (history : History) → T.saw turns.old history → IfOk result (λ grown. WasMade
         (kind_of B.number (branch_data B.extents B.entries B.cuts B.table) B.TELLS)
@@ -77,7 +79,7 @@ fn enter_and_raise<B: Content, T: Turns<B>>(turns: &mut T) -> Result<Grown, Call
     }
 }
 
-/// Does the same, and stops where no step is left to give back what the actor has.
+/// Does the same, and stops if the holder has no steps left to give back what the actor has.
 fn raise_or_stop<B: Content, T: Turns<B>>(turns: &mut T) -> Result<Grown, CallFault>
     requires turns { (T.means turns.old).turns < 2 ^ 41 }
     requires ready { T.ready turns.old }
@@ -89,6 +91,7 @@ fn raise_or_stop<B: Content, T: Turns<B>>(turns: &mut T) -> Result<Grown, CallFa
     ensures few { MadeFew (T.means turns.old) (T.means turns.new) 0 }
     ensures ready { T.ready turns.new }
     ensures left { OnOk result ((T.means turns.old).turns < (T.means turns.new).turns) }
+    ensures most { (T.means turns.new).turns ≤ (T.means turns.old).turns + 4 }
     ensures told { OnOk result (told_by (T.means turns.old) ≤ told_by (T.means turns.new)) }
     ensures room { OnOk result ((T.means turns.new).turns < 2 ^ 40) }
     ensures made { (history : History) → T.saw turns.old history → IfOk result (λ grown. WasMade
@@ -102,7 +105,7 @@ fn raise_or_stop<B: Content, T: Turns<B>>(turns: &mut T) -> Result<Grown, CallFa
     Ok(grown)
 }
 
-/// Raises the root over a new node, where the root is to be split. Afterwards the actor has nothing, however it ends.
+/// Raises the root over a new node, if the root is to be split. However it ends, the actor has nothing afterwards.
 pub fn raise_root<B: Content, T: Turns<B>>(turns: &mut T) -> Result<Grown, CallFault>
     requires turns { (T.means turns.old).turns < 2 ^ 41 }
     requires ready { T.ready turns.old }
@@ -116,9 +119,12 @@ pub fn raise_root<B: Content, T: Turns<B>>(turns: &mut T) -> Result<Grown, CallF
     ensures ok_few { OnOk result (MadeFew (T.means turns.old) (T.means turns.new) 0) }
     ensures err_few { OnErr result (MadeFew (T.means turns.old) (T.means turns.new) 1) }
     ensures left { OnOk result ((T.means turns.old).turns < (T.means turns.new).turns) }
+
+    // Nothing is waited for.
+    ensures most { (T.means turns.new).turns ≤ (T.means turns.old).turns + 5 }
     ensures told { OnOk result (told_by (T.means turns.old) ≤ told_by (T.means turns.new)) }
 
-    // A turn of this call says what came of it.
+    // A turn of this call shows the result.
     ensures made { (history : History) → T.saw turns.old history → IfOk result (λ grown. WasMade
         (kind_of B.number (branch_data B.extents B.entries B.cuts B.table) B.TELLS)
         (T.means turns.old) history (T.means turns.new) (T.saw turns.new) (IsRootEnd grown)) }

@@ -1,4 +1,4 @@
-//! The step by which bundles move on to a child.
+//! The step that flushes bundles to a child.
 ghost use Rattle.std.specs.Prelude.{◌≡◌, ◌<◌, ◌^◌};
 ghost use Rattle.spl_message.specs.History.{History};
 ghost use Rattle.spl_holds.specs.declared.grip.Grip.TheVariants as grip;
@@ -14,7 +14,7 @@ use spl_desk::{Turns, take_turn};
 use spl_message::Content;
 use spl_state::Reply;
 
-/// What passing bundles on to a child comes to.
+/// The result of a flush.
 #[derive(Clone, Copy, Debug, PartialEq, Eq)]
 pub enum Flushing {
     /// What was live for the child in the parent is the child's newest bundle.
@@ -27,7 +27,7 @@ pub enum Flushing {
     NeedsCompact { branches: u32 },
 }
 
-/// Passes on to the child what is live for it in the parent. The actor writes both, and goes on writing them.
+/// Flushes to the child what is live for it in the parent. The actor writes both nodes, also afterwards.
 pub fn flush<B: Content, T: Turns<B>>(turns: &mut T, parent: u32, child: u32) -> Flushing
     requires turns { (T.means turns.old).turns < 2 ^ 41 }
     requires ready { T.ready turns.old }

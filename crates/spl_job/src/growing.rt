@@ -1,7 +1,7 @@
 //! The steps by which the trunk grows, one function each.
 //!
-//! The root is raised over a new node, and a node that became too big is split in two. Either makes one node, of
-//! which there are only so many.
+//! The root is raised over a new node, and a node that became too big is split in two. Either makes one more node;
+//! there are at most 4,096.
 ghost use Rattle.std.specs.Prelude.{◌≡◌, ◌≢◌, ◌<◌, ◌^◌, Ok, Some};
 ghost use Rattle.spl_message.specs.History.{History};
 ghost use Rattle.spl_holds.specs.declared.grip.Grip.TheVariants as grip;
@@ -19,16 +19,16 @@ use spl_desk::{Turns, take_turn};
 use spl_message::{Content, Key};
 use spl_state::Reply;
 
-/// What raising the root comes to.
+/// The result of raising the root.
 #[derive(Clone, Copy, Debug, PartialEq, Eq)]
 pub enum Raising {
-    /// The root lies over a new node, which is what the root was.
+    /// The root is above a new node, which is what the root was.
     Done,
     /// There are as many nodes as there can be.
     Nodes,
 }
 
-/// What splitting a node comes to.
+/// The result of splitting a node.
 #[derive(Clone, Copy, Debug, PartialEq, Eq)]
 pub enum Splitting {
     /// The part from the key on is a new node, and the parent leads to both parts.

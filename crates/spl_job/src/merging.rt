@@ -26,7 +26,7 @@ use spl_desk::{Turns, take_turn};
 use spl_message::Content;
 use spl_state::{Reply, Ticket, View};
 
-/// What asking for a run of bundles comes to.
+/// The result of asking for a run of bundles.
 #[derive(Drop)]
 pub enum Started<B: Content> {
     /// The run is the actor's to merge.
@@ -39,7 +39,7 @@ pub enum Started<B: Content> {
     Crossed,
 }
 
-/// What the end of a merge in one node comes to.
+/// The result of ending a merge in one node.
 #[derive(Clone, Copy, Debug, PartialEq, Eq)]
 pub enum Installed {
     /// The node is served, and this one holds the run too.
@@ -122,8 +122,8 @@ pub fn start<B: Content, T: Turns<B>>(
     }
 }
 
-/// Puts what was merged in the place of the run in the node, which the actor writes. `output` says whether a
-/// branch was published; without one nothing is left of what was merged.
+/// Replaces the run in the node, which the actor writes, by what was merged. `output` says whether a branch was
+/// published; without one nothing is left of what was merged.
 pub fn install<B: Content, T: Turns<B>>(turns: &mut T, node: u32, output: bool) -> Installed
     requires turns { (T.means turns.old).turns < 2 ^ 41 }
     requires ready { T.ready turns.old }

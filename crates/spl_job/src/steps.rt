@@ -23,12 +23,12 @@ use spl_message::Content;
 use spl_state::Reply;
 use std::sync::Arc;
 
-/// What hanging a branch at the root comes to.
+/// The result of hanging a branch at the root.
 #[derive(Clone, Copy, Debug, PartialEq, Eq)]
 pub enum Hanging {
     /// The branch is the newest bundle of the root.
     Done,
-    /// An older frozen memtable stands, picked by this actor.
+    /// An older frozen memtable comes first. With the actor that picked it, if any.
     NotOldest { by: Option<u32> },
     /// The root has as many bundles as it can have.
     NeedsFlush,
@@ -41,7 +41,7 @@ pub struct Picked {
     pub table: Slice,
 }
 
-/// Picks the oldest frozen memtable that nobody picked, where there is one.
+/// Picks the oldest frozen memtable that nobody picked, if there is one.
 pub fn pick<B: Content, T: Turns<B>>(turns: &mut T) -> Result<Option<Picked>, NoMemory>
     requires turns { (T.means turns.old).turns < 2 ^ 41 }
     requires ready { T.ready turns.old }
@@ -65,7 +65,7 @@ pub fn pick<B: Content, T: Turns<B>>(turns: &mut T) -> Result<Option<Picked>, No
     }
 }
 
-/// Grants a free extent, where there is one.
+/// Grants a free extent, if there is one.
 pub fn grant<B: Content, T: Turns<B>>(turns: &mut T) -> Option<u32>
     requires turns { (T.means turns.old).turns < 2 ^ 41 }
     requires ready { T.ready turns.old }
@@ -112,7 +112,7 @@ pub fn publish<B: Content, T: Turns<B>>(turns: &mut T, branch: Arc<B>) -> Result
     }
 }
 
-/// Takes a claim on the node, where nobody else has one or writes the node.
+/// Takes a claim on the node, unless another actor has one or writes the node.
 pub fn claim<B: Content, T: Turns<B>>(turns: &mut T, node: u32) -> bool
     requires turns { (T.means turns.old).turns < 2 ^ 41 }
     requires ready { T.ready turns.old }
@@ -137,7 +137,7 @@ pub fn claim<B: Content, T: Turns<B>>(turns: &mut T, node: u32) -> bool
     }
 }
 
-/// Makes the claim on the node a write, where nobody reads the node.
+/// Makes the claim on the node a write, if nobody reads the node.
 pub fn lock<B: Content, T: Turns<B>>(turns: &mut T, node: u32) -> bool
     requires turns { (T.means turns.old).turns < 2 ^ 41 }
     requires ready { T.ready turns.old }
@@ -183,8 +183,7 @@ pub fn unlock<B: Content, T: Turns<B>>(turns: &mut T, node: u32)
     }
 }
 
-/// Hangs the published branch at the root in the place of its memtable, where that is the oldest and
-/// there is room.
+/// Hangs the published branch at the root, where it replaces its memtable, if that is the oldest and there is room.
 pub fn incorporate<B: Content, T: Turns<B>>(turns: &mut T) -> Hanging
     requires turns { (T.means turns.old).turns < 2 ^ 41 }
     requires ready { T.ready turns.old }

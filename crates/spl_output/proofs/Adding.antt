@@ -30,6 +30,7 @@ add_again tells old new start before mid after key message answer same none more
         absurd (not_full_twice start.extents more.extent start.parts none.1 full.1)
     by add.Done is = record {
       granted = Some more.extent;
+      needed = λ has. none;
       adds = subst (λ (b : Building). Adds tells b after key message) is_mid (done is);
       holds = more.holds;
     }

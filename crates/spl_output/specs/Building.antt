@@ -1,12 +1,13 @@
 -- What is known of a branch while a job builds it.
-use Rattle.std.specs.Prelude.{◌≡◌, ℕ, Bool, List, [], ◌∷◌, ◌++◌, Option, Some, None}
+use Rattle.std.specs.Prelude.{◌≡◌, ◌⊎◌, ℕ, ◌+◌, ◌*◌, ◌≤◌, Bool, List, [], ◌∷◌, ◌++◌, length, Option, Some, None, IsSome}
 use Rattle.spl_message.specs.declared.message.Message.{Message}
 use Rattle.spl_message.specs.History.{History}
 use Rattle.spl_port.specs.Counts.{Counts, Rose}
 use Rattle.spl_branch.specs.Branch.{Branch}
+use Rattle.spl_branch.specs.Pages.{page_total}
 use Rattle.spl_build.specs.declared.fault.BuildFault.{BuildFault}
 use Rattle.spl_build.specs.declared.fault.BuildFault.TheVariants as build_fault
-use Rattle.spl_build.specs.Builder.{Adds, Building, Builds}
+use Rattle.spl_build.specs.Builder.{Adds, Building, Builds, HasNoRoom}
 use Rattle.spl_state.specs.declared.reply.Reply.TheVariants as reply
 use Rattle.spl_desk.specs.Calls.{IsSpentAt}
 use Rattle.spl_desk.specs.Causes.{WasAnswered}
@@ -44,9 +45,11 @@ abbrev pub with_granted : Building → Option ℕ → Building
 with_granted builder None = builder
 with_granted builder (Some extent) = record builder { extents = builder.extents ++ extent ∷ [] }
 
--- the key was added with its message, in the extents that were there, or with one more that the actor was granted
+-- the key was added with its message, in the extents that were there, or, where the next page had none left, with one more that the actor was
+-- granted
 pub record AddsAt (tells : Bool) (old new : Holder) (before after : Building) (key : List ℕ) (message : Message) : Type 0 where
   pub granted : Option ℕ
+  pub needed : IsSome granted → HasNoRoom before key message
   pub adds : Adds tells (with_granted before granted) after key message
   pub holds : (holding : Holding) → IsHolding old holding → IsHolding new (after_grant holding granted)
 
@@ -58,8 +61,10 @@ with_extents builder granted = record builder { extents = builder.extents ++ gra
 abbrev pub after_grants : Holding → List ℕ → Holding
 after_grants holding granted = record holding { extents = holding.extents ++ granted }
 
--- the branch is that of what was added, in the extents that were there and those that the actor was granted
+-- the branch is that of what was added, in the extents that were there and those that the actor was granted. Where one was granted, the
+-- pages fill the extents before the last one.
 pub record BuildsAt (tells : Bool) (old new : Holder) (builder : Building) (branch : Branch) : Type 0 where
   pub granted : List ℕ
+  pub needed : (granted ≡ []) ⊎ (32 * length branch.extents ≤ page_total branch.parts + 32)
   pub builds : Builds tells (with_extents builder granted) branch
   pub holds : (holding : Holding) → IsHolding old holding → IsHolding new (after_grants holding granted)

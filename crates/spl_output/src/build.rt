@@ -1,6 +1,7 @@
-ghost use Rattle.std.specs.Prelude.{◌≡◌, ◌≢◌, ◌<◌, ◌^◌, ◌↔◌, true, IfErr, IfOk, IfSome, IsNone, Ok, OnOk, OnErr, None};
+ghost use Rattle.std.specs.Prelude.{◌≡◌, ◌≢◌, ◌<◌, ◌≤◌, ◌^◌, ◌↔◌, true, IfErr, IfOk, IfSome, IsNone, Ok, OnOk, OnErr, None};
 ghost use Rattle.spl_message.specs.Key.{is_below};
 ghost use Rattle.spl_port.specs.Port.{WritesOne};
+ghost use Rattle.spl_branch.specs.Pages.{page_total};
 ghost use Rattle.spl_build.specs.Builder.{Adds, Builds, HasNoRoom, IfBuilt, Needs};
 ghost use Rattle.spl_build.specs.declared.stage.Stage.TheVariants.{Adding, Over};
 ghost use Rattle.spl_desk.specs.Branches.{branch_kind};
@@ -22,7 +23,7 @@ const MOST_TURNS: u64 = 1 << 40;
 
 const _: () = prove!(MOST_TURNS == 1_099_511_627_776);
 
-/// Gives the builder one more extent, which is granted.
+/// Grants one more extent, and gives it to the builder.
 fn extend<P: Port, T: Turns<Branch<P::Seal>>>(
     turns: &mut T,
     builder: &mut Builder<P>,
@@ -53,7 +54,7 @@ fn extend<P: Port, T: Turns<Branch<P::Seal>>>(
     Ok(builder.give(extent)?)
 }
 
-/// What the faults of a builder are to a call.
+/// The fault of a call for a fault of a builder.
 fn of_build(fault: BuildFault) -> CallFault
     ensures { result ≡ of_build fault }
 {
@@ -63,7 +64,7 @@ fn of_build(fault: BuildFault) -> CallFault
     }
 }
 
-/// Adds the key with its message to the branch, where the next page has an extent.
+/// Adds the key with its message to the branch, if the next page has an extent.
 fn add_once<P: Port>(
     port: &mut P,
     builder: &mut Builder<P>,
@@ -77,6 +78,7 @@ fn add_once<P: Port>(
     ensures needs_same { result ≡ Ok Add.Needs → builder.new ≡ builder.old }
     ensures done { result ≡ Ok Add.Done → Adds P.Seal.TELLS builder.old builder.new key.now message.now }
     ensures counts { WritesOne (P.counts port.old) (P.counts port.new) }
+    ensures faults { OnOk result ((P.counts port.new).faults ≡ (P.counts port.old).faults) }
     ensures cause { IfErr result (HasPageCause (P.counts port.old) (P.counts port.new)) }
 {
     match builder.add(port, key, LentMessage::of(message)) {
@@ -85,7 +87,7 @@ fn add_once<P: Port>(
     }
 }
 
-/// Adds the key with its message to the branch, which is granted one more extent where the next page has none.
+/// Adds the key with its message to the branch. One more extent is granted if the next page has none.
 pub fn add<P: Port, T: Turns<Branch<P::Seal>>>(
     turns: &mut T,
     port: &mut P,
@@ -107,6 +109,10 @@ pub fn add<P: Port, T: Turns<Branch<P::Seal>>>(
     ensures adds { OnOk result (AddsAt P.Seal.TELLS (T.means turns.old) (T.means turns.new)
         builder.old builder.new key.now message.now) }
     ensures counts { NeverFell (P.counts port.old) (P.counts port.new) }
+
+    // A device that failed is told of, and an extent is missed only where the next page needs one.
+    ensures faults { OnOk result ((P.counts port.new).faults ≡ (P.counts port.old).faults) }
+    ensures full { result ≡ Err CallFault.Full → HasNoRoom builder.old key.now message.now }
     ensures cause { IfErr result (HasWorkCause (branch_kind P.Seal.TELLS)
         (T.means turns.old) (T.saw turns.old) (T.means turns.new) (T.saw turns.new)
         (P.counts port.old) (P.counts port.new)) }
@@ -121,7 +127,7 @@ pub fn add<P: Port, T: Turns<Branch<P::Seal>>>(
     }
 }
 
-/// Writes the pages that are left, as far as there are extents for them.
+/// Writes the remaining pages, as far as there are extents for them.
 fn finish_once<P: Port>(
     port: &mut P,
     builder: &mut Builder<P>,
@@ -131,7 +137,9 @@ fn finish_once<P: Port>(
     ensures empty { IfOk result (λ answer. (answer ≡ Finish.Empty) ↔ (builder.old.entries ≡ 0)) }
     ensures needs { result ≡ Ok Finish.Needs → Needs P.Seal.TELLS builder.old builder.new }
     ensures built { IfOk result (λ answer. IfBuilt answer (λ branch. Builds P.Seal.TELLS builder.old branch)) }
+    ensures pages { IfOk result (λ answer. IfBuilt answer (λ branch. page_total builder.old.parts ≤ page_total branch.parts)) }
     ensures counts { NeverFell (P.counts port.old) (P.counts port.new) }
+    ensures faults { OnOk result ((P.counts port.new).faults ≡ (P.counts port.old).faults) }
     ensures cause { IfErr result (HasPageCause (P.counts port.old) (P.counts port.new)) }
 {
     match builder.finish(port) {
@@ -140,8 +148,8 @@ fn finish_once<P: Port>(
     }
 }
 
-/// Writes the pages that are left, and gives the branch away; none where nothing was added. The branch is
-/// granted one more extent wherever the next page has none.
+/// Writes the remaining pages, and returns the branch, or none if nothing was added. One more extent is granted
+/// whenever the next page has none.
 pub fn finish<P: Port, T: Turns<Branch<P::Seal>>>(
     turns: &mut T,
     port: &mut P,
@@ -163,6 +171,7 @@ pub fn finish<P: Port, T: Turns<Branch<P::Seal>>>(
     ensures none_same { result ≡ Ok None
         → (holding : Holding) → IsHolding (T.means turns.old) holding → IsHolding (T.means turns.new) holding }
     ensures counts { NeverFell (P.counts port.old) (P.counts port.new) }
+    ensures faults { OnOk result ((P.counts port.new).faults ≡ (P.counts port.old).faults) }
     ensures cause { IfErr result (HasWorkCause (branch_kind P.Seal.TELLS)
         (T.means turns.old) (T.saw turns.old) (T.means turns.new) (T.saw turns.new)
         (P.counts port.old) (P.counts port.new)) }

@@ -34,6 +34,7 @@ fn fill<P: Port, T: Turns<Branch<P::Seal>>>(
     ensures ready { T.ready turns.new }
     ensures filled { OnOk result (IsFilling P.Seal.TELLS (T.means turns.new) builder.new picked.now []) }
     ensures port { NeverFell (P.counts port.old) (P.counts port.new) }
+    ensures faults { OnOk result ((P.counts port.new).faults ≡ (P.counts port.old).faults) }
     ensures cause { IfErr result (HasWorkCause (branch_kind P.Seal.TELLS) (T.means turns.old) (T.saw turns.old)
         (T.means turns.new) (T.saw turns.new) (P.counts port.old) (P.counts port.new)) }
 {
@@ -59,6 +60,7 @@ pub(crate) fn build<P: Port, T: Turns<Branch<P::Seal>>>(
     ensures ready { T.ready turns.new }
     ensures built { IfOk result (IsBuilt P.Seal.TELLS (T.means turns.new)) }
     ensures port { NeverFell (P.counts port.old) (P.counts port.new) }
+    ensures faults { OnOk result ((P.counts port.new).faults ≡ (P.counts port.old).faults) }
     ensures cause { IfErr result (HasWorkCause (branch_kind P.Seal.TELLS) (T.means turns.old) (T.saw turns.old)
         (T.means turns.new) (T.saw turns.new) (P.counts port.old) (P.counts port.new)) }
 {
@@ -70,7 +72,7 @@ pub(crate) fn build<P: Port, T: Turns<Branch<P::Seal>>>(
     }
 }
 
-/// The branch where many can share it.
+/// The branch as a shared pointer.
 fn shared<S: Seal>(alloc: Global, branch: Branch<S>) -> Result<Arc<Branch<S>>, NoMemory>
     ensures { IfOk result (λ shared. shared.value ≡ branch) }
 {

@@ -1,5 +1,5 @@
 //! How a published branch comes to hang at the root.
-ghost use Rattle.std.specs.Prelude.{◌≡◌, ◌<◌, ◌^◌, true, IfErr, IfOk, IfSome, OnOk};
+ghost use Rattle.std.specs.Prelude.{◌≡◌, ◌+◌, ◌<◌, ◌≤◌, ◌^◌, true, IfErr, IfOk, IfSome, OnOk};
 ghost use Rattle.spl_state.specs.View.{branch_data};
 ghost use Rattle.spl_holds.specs.declared.grip.Grip.TheVariants as grip;
 ghost use Rattle.spl_holds.specs.Grip.{may_write};
@@ -33,6 +33,7 @@ fn leave_root<B: Content, T: Turns<B>>(turns: &mut T) -> Result<(), CallFault>
     ensures leaves { OnOk result ((holding : Holding) → IsHolding (T.means turns.old) holding
         → IsHolding (T.means turns.new) (with_grip holding 0 grip.Free)) }
     ensures left { OnOk result ((T.means turns.old).turns < (T.means turns.new).turns) }
+    ensures most { (T.means turns.new).turns ≤ (T.means turns.old).turns + 1 }
     ensures cause { IfErr result (HasTurnCause (T.means turns.new)) }
 {
     check_turns(turns)?;
@@ -55,6 +56,7 @@ fn hang_in_root<B: Content, T: Turns<B>>(turns: &mut T) -> Result<Option<Packed>
         (kind_of B.number (branch_data B.extents B.entries B.cuts B.table) B.TELLS)
         (T.means turns.old) (T.saw turns.old) (T.means turns.new) (T.saw turns.new))) }
     ensures left { OnOk result ((T.means turns.old).turns < (T.means turns.new).turns) }
+    ensures most { (T.means turns.new).turns ≤ (T.means turns.old).turns + 2 }
     ensures cause { IfErr result (HasTurnCause (T.means turns.new)) }
 {
     check_turns(turns)?;
@@ -87,6 +89,7 @@ fn hang_once<B: Content, T: Turns<B>>(turns: &mut T) -> Result<Option<Packed>, C
         (kind_of B.number (branch_data B.extents B.entries B.cuts B.table) B.TELLS)
         (T.means turns.old) (T.saw turns.old) (T.means turns.new) (T.saw turns.new))) }
     ensures left { OnOk result ((T.means turns.old).turns < (T.means turns.new).turns) }
+    ensures most { (T.means turns.new).turns ≤ (T.means turns.old).turns + 5 }
     ensures cause { IfErr result (HasTurnCause (T.means turns.new)) }
 {
     let _ = turns.actor();

@@ -1,4 +1,4 @@
-/// What came of packing a memtable.
+/// The result of packing a memtable.
 #[derive(Clone, Copy, Debug, PartialEq, Eq)]
 pub enum Packed {
     /// Its branch hangs at the root.

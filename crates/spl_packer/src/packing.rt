@@ -9,7 +9,7 @@ ghost use Rattle.spl_desk.specs.Quiet.{HasWorkCause, IsQuiet, WasMade};
 ghost use Rattle.spl_enter.specs.Turning.{HasTurnCause};
 ghost use Rattle.spl_job.specs.Holding.{Holding, IsHolding};
 ghost use Rattle.spl_job.specs.Merging.{IsHoldingOn};
-ghost use Rattle.spl_packer.specs.Outcomes.{ShowsFull, WasPacked};
+ghost use Rattle.spl_packer.specs.Outcomes.{ShowsFull, ShowsRoom, WasPacked, WroteWithRoom};
 ghost use Rattle.spl_packer.specs.Packs.{AfterHang, AfterPack, HasPicked, is_over};
 
 use crate::Packed;
@@ -43,6 +43,9 @@ fn is_root_full<B: Content, T: Turns<B>>(turns: &mut T) -> Result<bool, CallFaul
     ensures full { IfOk result (λ full. full ≡ true → (history : History) → T.saw turns.old history → WasMade
         (kind_of B.number (branch_data B.extents B.entries B.cuts B.table) B.TELLS)
         (T.means turns.old) history (T.means turns.new) (T.saw turns.new) ShowsFull) }
+    ensures room { IfOk result (λ full. full ≡ false → (history : History) → T.saw turns.old history → WasMade
+        (kind_of B.number (branch_data B.extents B.entries B.cuts B.table) B.TELLS)
+        (T.means turns.old) history (T.means turns.new) (T.saw turns.new) ShowsRoom) }
     ensures left { OnOk result ((T.means turns.old).turns < (T.means turns.new).turns) }
     ensures cause { IfErr result (HasTurnCause (T.means turns.new)) }
 {
@@ -72,11 +75,14 @@ fn pack_picked<T: Turns<Branch<P::Seal>>, P: Port, G: Pager, L: MergeLaw>(
     ensures hung { AfterHang (T.means desk.new.turns) result }
     ensures made { IfOk result (WasPacked (branch_kind P.Seal.TELLS)
         (T.means desk.old.turns) (T.saw desk.old.turns) (T.means desk.new.turns) (T.saw desk.new.turns)) }
+    ensures looked { WroteWithRoom (branch_kind P.Seal.TELLS) (T.means desk.old.turns) (T.saw desk.old.turns)
+        (T.means desk.new.turns) (T.saw desk.new.turns) (P.counts desk.old.port.now) (P.counts desk.new.port.now) }
+    ensures faults { OnOk result ((P.counts desk.new.port.now).faults ≡ (P.counts desk.old.port.now).faults) }
     ensures cause { IfErr result (HasWorkCause (branch_kind P.Seal.TELLS)
         (T.means desk.old.turns) (T.saw desk.old.turns) (T.means desk.new.turns) (T.saw desk.new.turns)
         (P.counts desk.old.port.now) (P.counts desk.new.port.now)) }
 {
-    // Seen before the first page is written, since a branch that finds no room is written in vain.
+    // Checked before the first page is written, since a branch that finds no room is written in vain.
     if is_root_full(&mut desk.turns)? {
         return Ok(Packed::NeedsFlush);
     }
@@ -105,6 +111,9 @@ fn pack_oldest<T: Turns<Branch<P::Seal>>, P: Port, G: Pager, L: MergeLaw>(
     ensures packed { AfterPack (T.means desk.new.turns) result }
     ensures made { IfOk result (WasPacked (branch_kind P.Seal.TELLS)
         (T.means desk.old.turns) (T.saw desk.old.turns) (T.means desk.new.turns) (T.saw desk.new.turns)) }
+    ensures looked { WroteWithRoom (branch_kind P.Seal.TELLS) (T.means desk.old.turns) (T.saw desk.old.turns)
+        (T.means desk.new.turns) (T.saw desk.new.turns) (P.counts desk.old.port.now) (P.counts desk.new.port.now) }
+    ensures faults { OnOk result ((P.counts desk.new.port.now).faults ≡ (P.counts desk.old.port.now).faults) }
     ensures cause { IfErr result (HasWorkCause (branch_kind P.Seal.TELLS)
         (T.means desk.old.turns) (T.saw desk.old.turns) (T.means desk.new.turns) (T.saw desk.new.turns)
         (P.counts desk.old.port.now) (P.counts desk.new.port.now)) }
@@ -123,7 +132,7 @@ fn is_over(packed: Packed) -> bool
     matches!(packed, Packed::Done | Packed::Nothing)
 }
 
-/// Does the same, and stops where no step is left to give back what the actor has.
+/// Does the same, and stops if the holder has no steps left to give back what the actor has.
 fn pack_or_stop<T: Turns<Branch<P::Seal>>, P: Port, G: Pager, L: MergeLaw>(
     desk: &mut Desk<'_, T, P, G, L>,
 ) -> Result<Packed, CallFault>
@@ -144,6 +153,9 @@ fn pack_or_stop<T: Turns<Branch<P::Seal>>, P: Port, G: Pager, L: MergeLaw>(
     ensures packed { AfterPack (T.means desk.new.turns) result }
     ensures made { IfOk result (WasPacked (branch_kind P.Seal.TELLS)
         (T.means desk.old.turns) (T.saw desk.old.turns) (T.means desk.new.turns) (T.saw desk.new.turns)) }
+    ensures looked { WroteWithRoom (branch_kind P.Seal.TELLS) (T.means desk.old.turns) (T.saw desk.old.turns)
+        (T.means desk.new.turns) (T.saw desk.new.turns) (P.counts desk.old.port.now) (P.counts desk.new.port.now) }
+    ensures faults { OnOk result ((P.counts desk.new.port.now).faults ≡ (P.counts desk.old.port.now).faults) }
     ensures cause { IfErr result (HasWorkCause (branch_kind P.Seal.TELLS)
         (T.means desk.old.turns) (T.saw desk.old.turns) (T.means desk.new.turns) (T.saw desk.new.turns)
         (P.counts desk.old.port.now) (P.counts desk.new.port.now)) }
@@ -155,8 +167,8 @@ fn pack_or_stop<T: Turns<Branch<P::Seal>>, P: Port, G: Pager, L: MergeLaw>(
     Ok(packed)
 }
 
-/// Packs the oldest frozen memtable that nobody picked: its branch is written, and hangs at the root in the memtable's place. Afterwards
-/// the actor has nothing, however it ends.
+/// Packs the oldest frozen memtable that nobody picked: its branch is written, and replaces the memtable at the root.
+/// However it ends, the actor has nothing afterwards.
 pub fn pack<T: Turns<Branch<P::Seal>>, P: Port, G: Pager, L: MergeLaw>(
     desk: &mut Desk<'_, T, P, G, L>,
 ) -> Result<Packed, CallFault>
@@ -179,6 +191,11 @@ pub fn pack<T: Turns<Branch<P::Seal>>, P: Port, G: Pager, L: MergeLaw>(
     // A turn of this call shows it.
     ensures made { IfOk result (WasPacked (branch_kind P.Seal.TELLS)
         (T.means desk.old.turns) (T.saw desk.old.turns) (T.means desk.new.turns) (T.saw desk.new.turns)) }
+
+    // A page is written only where the root was seen with room for its branch.
+    ensures looked { WroteWithRoom (branch_kind P.Seal.TELLS) (T.means desk.old.turns) (T.saw desk.old.turns)
+        (T.means desk.new.turns) (T.saw desk.new.turns) (P.counts desk.old.port.now) (P.counts desk.new.port.now) }
+    ensures faults { OnOk result ((P.counts desk.new.port.now).faults ≡ (P.counts desk.old.port.now).faults) }
     ensures cause { IfErr result (HasWorkCause (branch_kind P.Seal.TELLS)
         (T.means desk.old.turns) (T.saw desk.old.turns) (T.means desk.new.turns) (T.saw desk.new.turns)
         (P.counts desk.old.port.now) (P.counts desk.new.port.now)) }

@@ -12,6 +12,7 @@ ghost use Rattle.spl_range.specs.Adding.{AddsAt, AddsUnder, ComeTo};
 ghost use Rattle.spl_range.specs.Stopping.{HasReadCause, of_branch};
 
 use crate::found::put_under;
+use crate::latest::Latest;
 use spl_base::NoMemory;
 use spl_branch::{Branch, BranchFault};
 use spl_desk::CallFault;
@@ -108,6 +109,7 @@ fn add_entry<P: Port, G: Pager, L: MergeLaw>(
     ensures fewer { result ≡ Ok true → keys_left scan.new.last < keys_left scan.old.last }
     ensures branch { OnOk result (scan.new.branch ≡ scan.old.branch) }
     ensures counts { OnlyReads (P.counts port.old) (P.counts port.new) }
+    ensures faults { OnOk result ((P.counts port.new).faults ≡ (P.counts port.old).faults) }
     ensures cause { IfErr result (HasReadCause P.Seal.TELLS (P.counts port.old) (P.counts port.new)) }
 {
     match scan.next(port, pager) {
@@ -135,11 +137,13 @@ fn add_branch<P: Port, G: Pager, L: MergeLaw>(
     ensures told { P.Seal.TELLS ≡ true → OnOk result (AddsUnder (L.rule law.now) span.now
         (λ key. option_to_list (message_at (table_of branch.now.value) key)) found.old.entries found.new.entries) }
     ensures counts { OnlyReads (P.counts port.old) (P.counts port.new) }
+    ensures faults { OnOk result ((P.counts port.new).faults ≡ (P.counts port.old).faults) }
     ensures cause { IfErr result (HasReadCause P.Seal.TELLS (P.counts port.old) (P.counts port.new)) }
 {
+    let latest = Latest::new(pager);
     let mut scan = scan_of(alloc, branch, span)?;
     loop {
-        if !add_entry(alloc, port, pager, law, &mut scan, found)? {
+        if !add_entry(alloc, port, &latest, law, &mut scan, found)? {
             return Ok(());
         }
     }
@@ -159,6 +163,7 @@ pub(crate) fn add_branches<P: Port, G: Pager, L: MergeLaw>(
     ensures told { P.Seal.TELLS ≡ true → OnOk result (AddsUnder (L.rule law.now) span.now
         (chain (map table_of branches.now)) found.old.entries found.new.entries) }
     ensures counts { OnlyReads (P.counts port.old) (P.counts port.new) }
+    ensures faults { OnOk result ((P.counts port.new).faults ≡ (P.counts port.old).faults) }
     ensures cause { IfErr result (HasReadCause P.Seal.TELLS (P.counts port.old) (P.counts port.new)) }
 {
     let shared = branches.as_slice();

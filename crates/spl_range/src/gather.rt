@@ -59,6 +59,7 @@ fn gather<T: Turns<Branch<P::Seal>>, P: Port, G: Pager, L: MergeLaw>(
     ensures walk { (history : History) → T.saw desk.old.turns history → MadeNoCall (branch_kind P.Seal.TELLS)
         (T.means desk.old.turns) history (T.means desk.new.turns) (T.saw desk.new.turns) }
     ensures counts { OnlyReads (P.counts desk.old.port.now) (P.counts desk.new.port.now) }
+    ensures faults { OnOk result ((P.counts desk.new.port.now).faults ≡ (P.counts desk.old.port.now).faults) }
     ensures cause { IfErr result (HasPieceCause P.Seal.TELLS (P.counts desk.old.port.now) (P.counts desk.new.port.now)
         (T.means desk.new.turns)) }
 {
@@ -136,6 +137,7 @@ pub(crate) fn pairs_at<T: Turns<Branch<P::Seal>>, P: Port, G: Pager, L: MergeLaw
     ensures walk { (history : History) → T.saw desk.old.turns history → MadeNoCall (branch_kind P.Seal.TELLS)
         (T.means desk.old.turns) history (T.means desk.new.turns) (T.saw desk.new.turns) }
     ensures counts { OnlyReads (P.counts desk.old.port.now) (P.counts desk.new.port.now) }
+    ensures faults { OnOk result ((P.counts desk.new.port.now).faults ≡ (P.counts desk.old.port.now).faults) }
     ensures cause { IfErr result (HasPieceCause P.Seal.TELLS (P.counts desk.old.port.now) (P.counts desk.new.port.now)
         (T.means desk.new.turns)) }
 {

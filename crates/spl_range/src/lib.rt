@@ -10,6 +10,7 @@
 mod add;
 mod found;
 mod gather;
+mod latest;
 mod piece;
 mod pieces;
 

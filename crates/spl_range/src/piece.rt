@@ -1,5 +1,5 @@
 //! One piece: a call that has a place of its own.
-ghost use Rattle.std.specs.Prelude.{◌≡◌, ◌<◌, ◌^◌, IfOk, IfErr, MatchOption};
+ghost use Rattle.std.specs.Prelude.{◌≡◌, ◌<◌, ◌≤◌, ◌^◌, IfOk, OnOk, IfErr, MatchOption};
 ghost use Rattle.spl_message.specs.History.{History};
 ghost use Rattle.spl_message.specs.declared.call.Call.TheVariants as call;
 ghost use Rattle.spl_branch.specs.Reading.{OnlyReads};
@@ -35,6 +35,8 @@ pub(crate) fn piece<T: Turns<Branch<P::Seal>>, P: Port, G: Pager, L: MergeLaw>(
     ensures law { desk.new.law.now ≡ desk.old.law.now }
     ensures device { desk.new.port.ghost_name ≡ desk.old.port.ghost_name }
     ensures pager { desk.new.pager.now ≡ desk.old.pager.now }
+    ensures turned { OnOk result (((T.means desk.old.turns).turns < (T.means desk.new.turns).turns)
+        × ((T.means desk.new.turns).turns ≤ 2 ^ 40)) }
     ensures part { IfOk result (IsPart span.now) }
     ensures pieced { (history : History) → T.saw desk.old.turns history → IfOk result (Pieced (branch_kind P.Seal.TELLS)
         (T.means desk.old.turns) history (T.means desk.new.turns) (T.saw desk.new.turns) span.now) }
@@ -45,6 +47,7 @@ pub(crate) fn piece<T: Turns<Branch<P::Seal>>, P: Port, G: Pager, L: MergeLaw>(
         (λ place. MadeCall (branch_kind P.Seal.TELLS) (T.means desk.old.turns) history (T.means desk.new.turns)
         (T.saw desk.new.turns) (call.Piece span.now) place)) }
     ensures port { OnlyReads (P.counts desk.old.port.now) (P.counts desk.new.port.now) }
+    ensures faults { OnOk result ((P.counts desk.new.port.now).faults ≡ (P.counts desk.old.port.now).faults) }
     ensures cause { IfErr result (λ stopped. HasPieceCause P.Seal.TELLS (P.counts desk.old.port.now)
         (P.counts desk.new.port.now) (T.means desk.new.turns) stopped.fault) }
 {

@@ -1,4 +1,4 @@
-ghost use Rattle.std.specs.Prelude.{◌≡◌, ◌≢◌, ◌<◌, ◌^◌, None, Some, Ok, IfOk, IfErr, IfSome, IsSome, MatchOption, OnErr};
+ghost use Rattle.std.specs.Prelude.{◌≡◌, ◌≢◌, ◌<◌, ◌≤◌, ◌^◌, None, Some, Ok, IfOk, IfErr, IfSome, IsSome, MatchOption, OnErr, OnOk};
 ghost use Rattle.spl_message.specs.Answer.{EndsIn};
 ghost use Rattle.spl_message.specs.History.{History};
 ghost use Rattle.spl_message.specs.declared.call.Call.TheVariants as call;
@@ -49,6 +49,13 @@ impl Pieces {
         Pieces { left: Some(span) }
     }
 
+    /// What is left of the span.
+    pub fn left(&self) -> &Option<Span>
+        ensures { result.now ≡ self.now }
+    {
+        &self.left
+    }
+
     /// The next piece, which starts where the one before ended; `None` after the last one and after an error.
     pub fn next<T: Turns<Branch<P::Seal>>, P: Port, G: Pager, L: MergeLaw>(
         &mut self,
@@ -67,6 +74,10 @@ impl Pieces {
         ensures law { desk.new.law.now ≡ desk.old.law.now }
         ensures device { desk.new.port.ghost_name ≡ desk.old.port.ghost_name }
         ensures pager { desk.new.pager.now ≡ desk.old.pager.now }
+
+        // Each piece takes a turn, of which a desk has 2^40.
+        ensures turned { IfOk result (λ next. IfSome next (λ piece. ((T.means desk.old.turns).turns < (T.means desk.new.turns).turns)
+            × ((T.means desk.new.turns).turns ≤ 2 ^ 40))) }
 
         // There is none exactly where nothing is left, and then nothing is asked.
         ensures none { self.old ≡ None → (result ≡ Ok None) × (self.new ≡ None)
@@ -88,6 +99,7 @@ impl Pieces {
             (λ place. MadeCall (branch_kind P.Seal.TELLS) (T.means desk.old.turns) history (T.means desk.new.turns)
             (T.saw desk.new.turns) (call.Piece span) place))) }
         ensures port { OnlyReads (P.counts desk.old.port.now) (P.counts desk.new.port.now) }
+        ensures faults { OnOk result ((P.counts desk.new.port.now).faults ≡ (P.counts desk.old.port.now).faults) }
         ensures cause { IfErr result (λ stopped. HasPieceCause P.Seal.TELLS (P.counts desk.old.port.now)
             (P.counts desk.new.port.now) (T.means desk.new.turns) stopped.fault) }
     {

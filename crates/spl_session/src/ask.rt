@@ -1,4 +1,4 @@
-//! The messages that a key has in the tables of a node, all in one.
+//! The messages that a key has in the tables of a node, combined into one.
 ghost use Rattle.std.specs.Prelude.{◌≡◌, ◌∷◌, ◌++◌, ◌+◌, ◌≤◌, true, map, sum_by, option_to_list, IfOk, IfErr};
 ghost use Rattle.spl_message.specs.Table.{chain, message_at};
 ghost use Rattle.spl_branch.specs.Branch.{table_of};
@@ -16,7 +16,7 @@ use spl_state::Branches;
 use spl_tables::Slices;
 use std::alloc::Global;
 
-/// Whether what lies below no longer matters.
+/// Whether nothing below matters any more.
 pub(crate) fn is_decided(found: &Option<Message>) -> bool
     ensures { result ≡ decides found.now }
 {
@@ -86,7 +86,7 @@ fn with_older<L: MergeLaw>(
     }
 }
 
-/// What a branch's fault is to a call.
+/// The fault of a call for a fault of a branch.
 fn fault_of(fault: BranchFault) -> CallFault
     ensures { result ≡ of_branch fault }
 {
@@ -114,7 +114,7 @@ fn ask_branch<P: Port, G: Pager, L: MergeLaw>(
     ensures counts { OnlyReads (P.counts port.old) (P.counts port.new) }
     ensures cause { IfErr result (HasReadCause P.Seal.TELLS (P.counts port.old) (P.counts port.new)) }
 {
-    // Where the seals tell their pages, so does the branch.
+    // If the seals tell their pages, so does the branch.
     let _ = branch.leaves();
     match branch.get(port, pager, key) {
         Ok(Some(older)) => Ok(with_older(alloc, law, key.key(), older, found)?),

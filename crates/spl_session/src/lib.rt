@@ -1,11 +1,12 @@
-//! Calls of the store over a desk, each as a loop of steps of the core.
+//! The calls of the store over a desk, each as a loop of steps of the core. `Session` has them as methods.
 //!
-//! A put goes into the active memtable. Where that is full it is frozen, and where four are frozen one of
-//! them is packed first. Between two steps of a put the holder's actor has nothing, so a put that stops leaves nothing behind, and one
-//! that ends with an error has changed no key.
+//! A put goes into the active memtable. A full one is frozen; when four are frozen, the put first packs one of them.
+//! Between two steps of a put the holder's actor has nothing, so a put that stops leaves nothing behind, and one that
+//! ends with an error has changed no key.
 //!
-//! A lookup is one descent of `spl_down`. At each node it makes one message of those that the key has there, newest first, and ends
-//! where what lies below no longer matters. Pages are read while the node is latched, so no branch is freed under a read.
+//! A lookup is one descent of `spl_down`. At each node it combines the messages that the key has there, newest first,
+//! and ends once nothing below matters any more. Pages are read while the node is latched, so no branch is freed under
+//! a read.
 #![tactic(auto)]
 
 mod ask;

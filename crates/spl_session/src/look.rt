@@ -31,7 +31,8 @@ fn is_last<B: Content>(sight: &Sight<B>, found: &Option<Message>) -> bool
     sight.leaf || is_decided(found)
 }
 
-/// One message for those that the key has from the node of the sight down, and for what was found above. Ends the descent.
+/// One message for those that the key has from the node of the sight down, and for what was found above. Ends the
+/// descent.
 fn find<T: Turns<Branch<P::Seal>>, P: Port, G: Pager, L: MergeLaw>(
     desk: &mut Desk<'_, T, P, G, L>,
     key: &HashedKey,

@@ -16,9 +16,9 @@ use spl_message::{Key, MergeLaw, Value};
 use spl_pager::Pager;
 use spl_port::Port;
 
-/// Puts the message for the key, and answers its place in the history of all calls. A put that fails changes no key.
+/// Puts the message for the key, and returns its place in the history of all calls. A put that fails changes no key.
 ///
-/// Room for one more frozen memtable is made only where four are frozen.
+/// Room for one more frozen memtable is made only when four are frozen.
 pub fn put<T: Turns<Branch<P::Seal>>, P: Port, G: Pager, L: MergeLaw>(
     desk: &mut Desk<'_, T, P, G, L>,
     key: &Key,
@@ -86,7 +86,7 @@ pub fn insert<T: Turns<Branch<P::Seal>>, P: Port, G: Pager, L: MergeLaw>(
     put(desk, key, Write::Insert(value))
 }
 
-/// Takes the key's value away.
+/// Deletes the key.
 pub fn delete<T: Turns<Branch<P::Seal>>, P: Port, G: Pager, L: MergeLaw>(
     desk: &mut Desk<'_, T, P, G, L>,
     key: &Key,

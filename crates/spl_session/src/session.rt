@@ -19,8 +19,8 @@ use spl_message::{Key, MergeLaw, Value};
 use spl_pager::Pager;
 use spl_port::Port;
 
-/// The store as its caller has it: each call goes over the desk. A session is made by a literal, and its desk stays in reach,
-/// so that whoever lent the port finds it again.
+/// The store as its caller has it: each call goes over the desk. A session is made by a literal, and its desk is
+/// public, so that the caller still reaches the port that it lent.
 #[derive(Drop)]
 pub struct Session<'a, T, P, G, L> {
     pub desk: Desk<'a, T, P, G, L>,

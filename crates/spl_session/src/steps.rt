@@ -16,7 +16,7 @@ use spl_down::abandon;
 use spl_message::{Content, Key, Message};
 use spl_state::Reply;
 
-/// What one round of a put comes to.
+/// The result of one round of a put.
 #[derive(Clone, Copy, Debug)]
 pub(crate) enum Progress {
     /// The put has this place.
@@ -27,7 +27,7 @@ pub(crate) enum Progress {
     Frozen,
 }
 
-/// Tries once to put the message. Answers its place, or `None` where the active memtable is full.
+/// Tries once to put the message. Returns its place, or `None` if the active memtable is full.
 pub(crate) fn try_put<B: Content, T: Turns<B>>(
     turns: &mut T,
     key: &Key,
@@ -51,7 +51,7 @@ pub(crate) fn try_put<B: Content, T: Turns<B>>(
     }
 }
 
-/// Tries once to freeze the active memtable. Answers `false` where four are frozen, and `true` too where the active one has
+/// Tries once to freeze the active memtable. Returns `false` if four are frozen, and `true` also if the active one has
 /// room.
 pub(crate) fn try_rotate<B: Content, T: Turns<B>>(turns: &mut T) -> Result<bool, NoMemory>
     requires turns { (T.means turns.old).turns < 2 ^ 41 }
@@ -86,7 +86,7 @@ pub(crate) fn check_turns<B: Content, T: Turns<B>>(turns: &T) -> Result<(), Call
     }
 }
 
-/// Tries once to put the message, and to freeze the active memtable where that is full.
+/// Tries once to put the message, and to freeze the active memtable if that is full.
 fn attempt<B: Content, T: Turns<B>>(
     turns: &mut T,
     key: &Key,
@@ -119,7 +119,7 @@ fn attempt<B: Content, T: Turns<B>>(
     }
 }
 
-/// Does the same, and gives up where it meets a fault.
+/// Does the same, and gives up if it meets a fault.
 pub(crate) fn attempt_or_give_up<B: Content, T: Turns<B>>(
     turns: &mut T,
     key: &Key,

@@ -12,7 +12,7 @@ use spl_pager::Pager;
 use spl_port::Port;
 use spl_worker::make_memtable_room;
 
-/// Makes room where four memtables are frozen. It may answer `Ok` without having made room.
+/// Makes room when four memtables are frozen. It may return `Ok` without having made room.
 pub(crate) fn make_way<T: Turns<Branch<P::Seal>>, P: Port, G: Pager, L: MergeLaw>(
     desk: &mut Desk<'_, T, P, G, L>,
 ) -> Result<(), CallFault>

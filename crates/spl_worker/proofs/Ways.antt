@@ -19,8 +19,8 @@ planned holder node view Raise here names for = tt
 planned holder node view (Merge run) here names for = tt
 planned holder node view (Pass way) here names for =
     let child : (way.child < told_by holder) × (way.child ≢ node) =
-    subst (λ (c : Option ℕ). IfSome c (λ child. (child < told_by holder) × (child ≢ node))) for.2
-    (All-contains (λ (pivot : Pivot). IfSome pivot.child (λ child. (child < told_by holder) × (child ≢ node))) view.pivots for.0 names for.1) in
+    subst (λ (c : Option ℕ). IfSome c (λ child. (child < told_by holder) × (child ≢ node))) for.leads.2
+    (All-contains (λ (pivot : Pivot). IfSome pivot.child (λ child. (child < told_by holder) × (child ≢ node))) view.pivots for.leads.0 names for.leads.1) in
     record { here = here; child = child.0; apart = λ same. child.1 (sym same) }
 
 abbrev Waits : ℕ → Pivot → Type 0

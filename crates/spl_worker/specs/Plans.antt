@@ -1,12 +1,15 @@
 -- What a worker may do about a node, by what it saw of it.
-use Rattle.std.specs.Prelude.{◌≡◌, ◌≢◌, ◌⊎◌, ℕ, ◌<◌, ◌≤◌, nat_le, if◌then◌else◌, List, All, Contains, Option, Some, None, IsSome, IfSome}
+use Rattle.std.specs.Prelude.{◌≡◌, ◌≢◌, ◌⊎◌, ℕ, ◌<◌, ◌≤◌, nat_le, if◌then◌else◌, List, All, Contains, Option, Some, None, IsSome, IfSome, slice_get}
 use Rattle.spl_node.specs.declared.pivot.Pivot.{Pivot}
+use Rattle.spl_state.specs.declared.view.BundleView.{BundleView}
 use Rattle.spl_state.specs.declared.view.View.{View}
 use Rattle.spl_desk.specs.Holder.{Holder}
 use Rattle.spl_job.specs.Holding.{told_by}
 use Rattle.spl_worker.specs.declared.plan.Plan.{Plan}
 use Rattle.spl_worker.specs.declared.plan.Plan.TheVariants.{Raise, Merge, Pass}
 use Rattle.spl_worker.specs.declared.plan.Way.{Way}
+use Rattle.spl_worker.specs.declared.run.Run.{Run}
+use Rattle.spl_worker.specs.Wide.{newest}
 
 -- one of the parts leads to the child, and this is the first bundle that is live for it
 abbrev pub LeadsTo : List Pivot → Way → Type 0
@@ -30,11 +33,17 @@ pub record IsLeast (pivots : List Pivot) (found : Option Way) : Type 0 where
   pub least : IfSome found (λ way. All (λ (pivot : Pivot). IsSome pivot.child → way.mark ≤ pivot.mark) pivots)
   pub none : found ≡ None → All (λ (pivot : Pivot). pivot.child ≡ None) pivots
 
--- bundles pass to a child of the node; the bundles of a node that leads nowhere are merged
+-- the run goes from the first bundle of the node to the last one
+abbrev pub IsWhole : View → Run → Type 0
+IsWhole view run =
+    IfSome (slice_get view.bundles 0) (λ (bundle : BundleView). run.first ≡ bundle.number)
+    × IfSome (newest view.bundles) (λ (bundle : BundleView). run.last ≡ bundle.number)
+
+-- bundles pass to the child that has waited longest; all bundles of a node that leads nowhere are merged
 abbrev pub IsPlanFor : View → Plan → Type 0
-IsPlanFor view Raise = Unit {0}
-IsPlanFor view (Merge run) = All (λ (pivot : Pivot). pivot.child ≡ None) view.pivots
-IsPlanFor view (Pass way) = LeadsTo view.pivots way
+IsPlanFor view Raise = IsSome view.split
+IsPlanFor view (Merge run) = All (λ (pivot : Pivot). pivot.child ≡ None) view.pivots × IsWhole view run
+IsPlanFor view (Pass way) = IsLeast view.pivots (Some way)
 
 -- the node is the root, or one that the actor was told of
 abbrev pub IsNamed : Holder → ℕ → Type 0

@@ -1,11 +1,12 @@
 //! What workers do over a desk: they make room in the memtables and in the nodes of the trunk.
 //!
-//! A worker goes down the trunk from the node that has to get room. A full leaf's bundles are merged into one; a node with children passes
-//! its bundles to the child that has waited longest, and a child that is full or too big comes first. The trunk grows on the way: a root
-//! that is too big is raised, and another node is split.
+//! A worker goes down the trunk from the node that needs room. The bundles of a full leaf are merged into one; a node
+//! with children flushes to the child that has waited longest, and a child that is full or too big is handled first.
+//! The trunk grows on the way: a root that is too big is raised, and any other node that is too big is split.
 //!
-//! A piece of work makes no call that has a place, and leaves its actor with nothing, however it ends. Between two steps others may
-//! make theirs, so each look at a node is only a hint: what a step asks for is checked again when it is made.
+//! A piece of work makes no call that has a place, and leaves its actor with nothing, however it ends. Between two
+//! steps others may make theirs, so each look at a node is only a hint: what a step asks for is checked again when it
+//! is made.
 #![tactic(auto)]
 
 mod look;

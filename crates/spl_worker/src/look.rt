@@ -15,7 +15,7 @@ use spl_job::merging::survey;
 use spl_message::Content;
 use spl_state::View;
 
-/// Looks at a node, as an actor that has nothing.
+/// Surveys a node, for an actor that has nothing.
 pub(crate) fn look<B: Content, T: Turns<B>>(turns: &mut T, node: u32) -> Result<View, CallFault>
     requires turns { (T.means turns.old).turns < 2 ^ 41 }
     requires ready { T.ready turns.old }

@@ -15,8 +15,8 @@ use spl_packer::{Packed, pack};
 use spl_pager::Pager;
 use spl_port::Port;
 
-/// Packs one frozen memtable into a branch that hangs at the root, and makes room there first where that is full. It answers `Ok` too where
-/// no frozen memtable waits to be packed.
+/// Packs one frozen memtable into a branch that hangs at the root, and makes room there first if the root is full. It
+/// also returns `Ok` if no frozen memtable waits to be packed.
 pub fn make_memtable_room<T: Turns<Branch<P::Seal>>, P: Port, G: Pager, L: MergeLaw>(
     desk: &mut Desk<'_, T, P, G, L>,
 ) -> Result<(), CallFault>
@@ -42,6 +42,7 @@ pub fn make_memtable_room<T: Turns<Branch<P::Seal>>, P: Port, G: Pager, L: Merge
     ensures made { OnOk result ((history : History) → T.saw desk.old.turns history
         → WasMade (branch_kind P.Seal.TELLS) (T.means desk.old.turns) history
         (T.means desk.new.turns) (T.saw desk.new.turns) MakesWay) }
+    ensures faults { OnOk result ((P.counts desk.new.port.now).faults ≡ (P.counts desk.old.port.now).faults) }
     ensures cause { IfErr result (HasWorkCause (branch_kind P.Seal.TELLS) (T.means desk.old.turns)
         (T.saw desk.old.turns) (T.means desk.new.turns) (T.saw desk.new.turns)
         (P.counts desk.old.port.now) (P.counts desk.new.port.now)) }

@@ -1,9 +1,10 @@
-//! What a run of bundles comes to.
+//! How a run of bundles is merged.
 ghost use Rattle.std.specs.Prelude.{◌≡◌, ◌<◌, ◌^◌, IfErr, IfOk, OnErr, OnOk};
 ghost use Rattle.spl_desk.specs.Branches.{branch_kind};
 ghost use Rattle.spl_desk.specs.Calls.{HasSeen, MadeFew, MayCall};
 ghost use Rattle.spl_desk.specs.Quiet.{HasWorkCause};
 ghost use Rattle.spl_job.specs.Holding.{told_by};
+ghost use Rattle.spl_compactor.specs.Outcomes.{WasAskedFor};
 ghost use Rattle.spl_worker.specs.Reliefs.{WasPassed, merged_relief};
 ghost use Rattle.spl_worker.specs.Working.{HasGoneOn, HasWorked};
 
@@ -16,7 +17,7 @@ use spl_message::MergeLaw;
 use spl_pager::Pager;
 use spl_port::Port;
 
-/// What came of a merge.
+/// The result of a merge, for the node.
 fn merged_relief(compacted: Compacted) -> Relief
     ensures { result ≡ merged_relief compacted }
 {
@@ -49,6 +50,9 @@ pub(crate) fn merge_run<T: Turns<Branch<P::Seal>>, P: Port, G: Pager, L: MergeLa
     ensures device { desk.new.port.ghost_name ≡ desk.old.port.ghost_name }
     ensures made { IfOk result (WasPassed (branch_kind P.Seal.TELLS) (T.means desk.old.turns)
         (T.saw desk.old.turns) (T.means desk.new.turns) (T.saw desk.new.turns)) }
+    ensures asked { OnOk result (WasAskedFor (branch_kind P.Seal.TELLS) (T.means desk.old.turns)
+        (T.saw desk.old.turns) (T.means desk.new.turns) (T.saw desk.new.turns) node run.first run.last) }
+    ensures faults { OnOk result ((P.counts desk.new.port.now).faults ≡ (P.counts desk.old.port.now).faults) }
     ensures cause { IfErr result (HasWorkCause (branch_kind P.Seal.TELLS) (T.means desk.old.turns)
         (T.saw desk.old.turns) (T.means desk.new.turns) (T.saw desk.new.turns)
         (P.counts desk.old.port.now) (P.counts desk.new.port.now)) }

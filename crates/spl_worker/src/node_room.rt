@@ -24,8 +24,8 @@ fn has_room(relief: Relief) -> bool
     matches!(relief, Relief::Room { .. })
 }
 
-/// Where to work next, so that the node gets room: back at the node where another one has room, at a child that needs it first, and else
-/// where the work was.
+/// Where to work next, so that the node gets room: back at the node if another one has room, at a child that needs room
+/// first, and else where the work was.
 fn next_for(node: u32, at: u32, relief: Relief) -> u32
     ensures { result ≡ next_for node at relief }
 {
@@ -36,8 +36,9 @@ fn next_for(node: u32, at: u32, relief: Relief) -> u32
     }
 }
 
-/// Makes room for one more bundle in the node. The bundles of a leaf are merged into one; a node with children passes its own to them, and
-/// room is made first in a child that is full. Where others are at it, it looks again until they have done.
+/// Makes room for one more bundle in the node. The bundles of a leaf are merged into one; a node with children flushes
+/// its own to them, and room is made first in a child that is full. While others do this work, it looks again until
+/// they are done.
 pub fn make_room<T: Turns<Branch<P::Seal>>, P: Port, G: Pager, L: MergeLaw>(
     desk: &mut Desk<'_, T, P, G, L>,
     node: u32,
@@ -67,6 +68,7 @@ pub fn make_room<T: Turns<Branch<P::Seal>>, P: Port, G: Pager, L: MergeLaw>(
     ensures made { OnOk result ((history : History) → T.saw desk.old.turns history
         → WasMade (branch_kind P.Seal.TELLS) (T.means desk.old.turns) history
         (T.means desk.new.turns) (T.saw desk.new.turns) (ShowsRoom node)) }
+    ensures faults { OnOk result ((P.counts desk.new.port.now).faults ≡ (P.counts desk.old.port.now).faults) }
     ensures cause { IfErr result (HasWorkCause (branch_kind P.Seal.TELLS) (T.means desk.old.turns)
         (T.saw desk.old.turns) (T.means desk.new.turns) (T.saw desk.new.turns)
         (P.counts desk.old.port.now) (P.counts desk.new.port.now)) }

@@ -1,4 +1,4 @@
-//! How the bundles of a node come to its children.
+//! How the bundles of a node are flushed to its children.
 ghost use Rattle.std.specs.Prelude.{◌≡◌, ◌<◌, ◌^◌, IfErr, IfOk, OnErr, OnOk};
 ghost use Rattle.spl_desk.specs.Branches.{branch_kind};
 ghost use Rattle.spl_desk.specs.Calls.{HasSeen, MadeFew, MayCall};
@@ -24,7 +24,7 @@ use spl_pager::Pager;
 use spl_port::Port;
 use spl_state::View;
 
-/// Merges the newest bundle of the node, where that has more than one branch and nobody merges it.
+/// Merges the newest bundle of the node, if it has more than one branch and nobody merges it.
 fn tidy<T: Turns<Branch<P::Seal>>, P: Port, G: Pager, L: MergeLaw>(
     desk: &mut Desk<'_, T, P, G, L>,
     node: u32,
@@ -44,6 +44,7 @@ fn tidy<T: Turns<Branch<P::Seal>>, P: Port, G: Pager, L: MergeLaw>(
     ensures law { desk.new.law.now ≡ desk.old.law.now }
     ensures pager { desk.new.pager.now ≡ desk.old.pager.now }
     ensures device { desk.new.port.ghost_name ≡ desk.old.port.ghost_name }
+    ensures faults { OnOk result ((P.counts desk.new.port.now).faults ≡ (P.counts desk.old.port.now).faults) }
     ensures cause { IfErr result (HasWorkCause (branch_kind P.Seal.TELLS) (T.means desk.old.turns)
         (T.saw desk.old.turns) (T.means desk.new.turns) (T.saw desk.new.turns)
         (P.counts desk.old.port.now) (P.counts desk.new.port.now)) }
@@ -56,7 +57,7 @@ fn tidy<T: Turns<Branch<P::Seal>>, P: Port, G: Pager, L: MergeLaw>(
     Ok(())
 }
 
-/// Passes the bundles of the part to its child.
+/// Flushes the bundles of the part to its child.
 fn flush<T: Turns<Branch<P::Seal>>, P: Port, G: Pager, L: MergeLaw>(
     desk: &mut Desk<'_, T, P, G, L>,
     node: u32,
@@ -80,6 +81,7 @@ fn flush<T: Turns<Branch<P::Seal>>, P: Port, G: Pager, L: MergeLaw>(
     ensures device { desk.new.port.ghost_name ≡ desk.old.port.ghost_name }
     ensures made { IfOk result (WasPassed (branch_kind P.Seal.TELLS) (T.means desk.old.turns)
         (T.saw desk.old.turns) (T.means desk.new.turns) (T.saw desk.new.turns)) }
+    ensures faults { OnOk result ((P.counts desk.new.port.now).faults ≡ (P.counts desk.old.port.now).faults) }
     ensures cause { IfErr result (HasWorkCause (branch_kind P.Seal.TELLS) (T.means desk.old.turns)
         (T.saw desk.old.turns) (T.means desk.new.turns) (T.saw desk.new.turns)
         (P.counts desk.old.port.now) (P.counts desk.new.port.now)) }
@@ -91,7 +93,7 @@ fn flush<T: Turns<Branch<P::Seal>>, P: Port, G: Pager, L: MergeLaw>(
             Ok(Relief::Flushed)
         }
         Flushed::NeedsRoom => Ok(Relief::Below { child }),
-        // Fewer branches have to pass once a bundle that is live for the part is merged.
+        // There are fewer branches to flush once a bundle that is live for the part is merged.
         Flushed::NeedsCompact { .. } => match first_wide(view, way.mark) {
             Some(number) => merge_run(desk, node, Run::of_one(number)),
             None => Ok(Relief::Stale),
@@ -100,7 +102,7 @@ fn flush<T: Turns<Branch<P::Seal>>, P: Port, G: Pager, L: MergeLaw>(
     }
 }
 
-/// Passes the bundles of the part to its child, where the child was seen with room for one more.
+/// Flushes the bundles of the part to its child, which was seen with room for one more.
 fn flush_where_room<T: Turns<Branch<P::Seal>>, P: Port, G: Pager, L: MergeLaw>(
     desk: &mut Desk<'_, T, P, G, L>,
     node: u32,
@@ -125,6 +127,7 @@ fn flush_where_room<T: Turns<Branch<P::Seal>>, P: Port, G: Pager, L: MergeLaw>(
     ensures device { desk.new.port.ghost_name ≡ desk.old.port.ghost_name }
     ensures made { IfOk result (WasPassed (branch_kind P.Seal.TELLS) (T.means desk.old.turns)
         (T.saw desk.old.turns) (T.means desk.new.turns) (T.saw desk.new.turns)) }
+    ensures faults { OnOk result ((P.counts desk.new.port.now).faults ≡ (P.counts desk.old.port.now).faults) }
     ensures cause { IfErr result (HasWorkCause (branch_kind P.Seal.TELLS) (T.means desk.old.turns)
         (T.saw desk.old.turns) (T.means desk.new.turns) (T.saw desk.new.turns)
         (P.counts desk.old.port.now) (P.counts desk.new.port.now)) }
@@ -136,7 +139,8 @@ fn flush_where_room<T: Turns<Branch<P::Seal>>, P: Port, G: Pager, L: MergeLaw>(
     }
 }
 
-/// Splits the child, which was seen to be too big. Where the node can't have one more child, bundles are passed to it first.
+/// Splits the child, which was seen to be too big. If the node can't have one more child, it flushes to this one
+/// instead.
 fn split_or_flush<T: Turns<Branch<P::Seal>>, P: Port, G: Pager, L: MergeLaw>(
     desk: &mut Desk<'_, T, P, G, L>,
     node: u32,
@@ -161,6 +165,7 @@ fn split_or_flush<T: Turns<Branch<P::Seal>>, P: Port, G: Pager, L: MergeLaw>(
     ensures device { desk.new.port.ghost_name ≡ desk.old.port.ghost_name }
     ensures made { IfOk result (WasPassed (branch_kind P.Seal.TELLS) (T.means desk.old.turns)
         (T.saw desk.old.turns) (T.means desk.new.turns) (T.saw desk.new.turns)) }
+    ensures faults { OnOk result ((P.counts desk.new.port.now).faults ≡ (P.counts desk.old.port.now).faults) }
     ensures cause { IfErr result (HasWorkCause (branch_kind P.Seal.TELLS) (T.means desk.old.turns)
         (T.saw desk.old.turns) (T.means desk.new.turns) (T.saw desk.new.turns)
         (P.counts desk.old.port.now) (P.counts desk.new.port.now)) }
@@ -197,6 +202,7 @@ fn go_down<T: Turns<Branch<P::Seal>>, P: Port, G: Pager, L: MergeLaw>(
     ensures device { desk.new.port.ghost_name ≡ desk.old.port.ghost_name }
     ensures made { IfOk result (WasPassed (branch_kind P.Seal.TELLS) (T.means desk.old.turns)
         (T.saw desk.old.turns) (T.means desk.new.turns) (T.saw desk.new.turns)) }
+    ensures faults { OnOk result ((P.counts desk.new.port.now).faults ≡ (P.counts desk.old.port.now).faults) }
     ensures cause { IfErr result (HasWorkCause (branch_kind P.Seal.TELLS) (T.means desk.old.turns)
         (T.saw desk.old.turns) (T.means desk.new.turns) (T.saw desk.new.turns)
         (P.counts desk.old.port.now) (P.counts desk.new.port.now)) }
@@ -208,7 +214,7 @@ fn go_down<T: Turns<Branch<P::Seal>>, P: Port, G: Pager, L: MergeLaw>(
     }
 }
 
-/// Passes the bundles of the part to its child, or does first what the child needs.
+/// Flushes the bundles of the part to its child, or does first what the child needs.
 pub(crate) fn pass_down<T: Turns<Branch<P::Seal>>, P: Port, G: Pager, L: MergeLaw>(
     desk: &mut Desk<'_, T, P, G, L>,
     node: u32,
@@ -232,6 +238,7 @@ pub(crate) fn pass_down<T: Turns<Branch<P::Seal>>, P: Port, G: Pager, L: MergeLa
     ensures device { desk.new.port.ghost_name ≡ desk.old.port.ghost_name }
     ensures made { IfOk result (WasPassed (branch_kind P.Seal.TELLS) (T.means desk.old.turns)
         (T.saw desk.old.turns) (T.means desk.new.turns) (T.saw desk.new.turns)) }
+    ensures faults { OnOk result ((P.counts desk.new.port.now).faults ≡ (P.counts desk.old.port.now).faults) }
     ensures cause { IfErr result (HasWorkCause (branch_kind P.Seal.TELLS) (T.means desk.old.turns)
         (T.saw desk.old.turns) (T.means desk.new.turns) (T.saw desk.new.turns)
         (P.counts desk.old.port.now) (P.counts desk.new.port.now)) }

@@ -1,5 +1,5 @@
 //! What is to be done about a node, as a survey shows it.
-ghost use Rattle.std.specs.Prelude.{◌≡◌, ◌<◌, length, None, IfSome};
+ghost use Rattle.std.specs.Prelude.{◌≡◌, ◌≢◌, ◌<◌, ◌≤◌, length, None, Some, IfSome, IsSome};
 ghost use Rattle.spl_worker.specs.Plans.{IsLeast, IsPlanFor, nearer};
 
 use crate::run::{Run, run_of};
@@ -9,7 +9,8 @@ use spl_state::View;
 /// The root of the trunk.
 pub(crate) const ROOT: u32 = 0;
 
-/// The part of a node whose bundles have waited longest: the child that it leads to, and the number of the first of them.
+/// The part of a node whose bundles have waited longest: the child that it leads to, and the number of the first of
+/// them.
 #[derive(Clone, Copy, Debug)]
 pub(crate) struct Way {
     pub(crate) child: u32,
@@ -23,11 +24,11 @@ pub(crate) enum Plan {
     Raise,
     /// The bundles of a leaf are to be merged into one.
     Merge(Run),
-    /// Bundles are to be passed to a child.
+    /// Bundles are to be flushed to a child.
     Pass(Way),
 }
 
-/// The way of the pivot, where its bundles have waited longer than those of the way that was found before it.
+/// The part of the pivot, if its bundles have waited longer than those of the part that was found before.
 fn nearer(found: Option<Way>, pivot: &Pivot) -> Option<Way>
     ensures { result ≡ nearer found pivot.now }
 {
@@ -52,10 +53,15 @@ fn least_way(view: &View) -> Option<Way>
     least
 }
 
-/// What is to be done about the node, where it has so many bundles or more, or is the root and to be raised.
+/// What is to be done about the node, if it has so many bundles or more, or is a root that is to be raised.
 pub(crate) fn plan_of(node: u32, view: &View, least: usize) -> Option<Plan>
     requires { 0 < least }
     ensures few { result ≡ None → length view.now.bundles < least }
+
+    // The root is raised exactly where it is to be split; else there is nothing to do with fewer bundles.
+    ensures raise { result ≡ Some Plan.Raise → node ≡ 0 }
+    ensures due { node ≡ 0 → IsSome view.now.split → result ≡ Some Plan.Raise }
+    ensures many { IfSome result (λ plan. plan ≢ Plan.Raise → least ≤ length view.now.bundles) }
     ensures for_view { IfSome result (IsPlanFor view.now) }
 {
     if node == ROOT && view.split.is_some() {

@@ -1,4 +1,4 @@
-/// What a piece of work at a node comes to, by which the node gets room.
+/// The result of one piece of work that is to give a node room.
 #[derive(Clone, Copy, Debug, PartialEq, Eq)]
 pub(crate) enum Relief {
     /// The node was seen with fewer bundles than were asked about. So many callers still ran.
@@ -7,10 +7,10 @@ pub(crate) enum Relief {
     Below { child: u32 },
     /// The root was raised, or a child was split.
     Grown,
-    /// Bundles passed to a child.
+    /// Bundles were flushed to a child.
     Flushed,
     /// Bundles were merged into one branch.
     Compacted,
-    /// Others are at the work that was found, or have done it.
+    /// Other actors are doing the work that was found, or have done it.
     Stale,
 }

@@ -1,4 +1,4 @@
-//! One piece of work at a node, by which the node gets room.
+//! One piece of work that is to give a node room.
 ghost use Rattle.std.specs.Prelude.{◌≡◌, ◌<◌, ◌^◌, IfErr, IfOk, OnErr, OnOk};
 ghost use Rattle.spl_desk.specs.Branches.{branch_kind};
 ghost use Rattle.spl_desk.specs.Calls.{HasSeen, MadeFew, MayCall};
@@ -21,7 +21,7 @@ use spl_pager::Pager;
 use spl_port::Port;
 use spl_state::View;
 
-/// What came of raising the root.
+/// The result of raising the root, for the node.
 fn raised_relief(grown: Grown) -> Relief
     ensures { result ≡ raised_relief grown }
 {
@@ -52,6 +52,7 @@ fn raise<T: Turns<Branch<P::Seal>>, P: Port, G: Pager, L: MergeLaw>(
     ensures device { desk.new.port.ghost_name ≡ desk.old.port.ghost_name }
     ensures made { IfOk result (WasPassed (branch_kind P.Seal.TELLS) (T.means desk.old.turns)
         (T.saw desk.old.turns) (T.means desk.new.turns) (T.saw desk.new.turns)) }
+    ensures faults { OnOk result ((P.counts desk.new.port.now).faults ≡ (P.counts desk.old.port.now).faults) }
     ensures cause { IfErr result (HasWorkCause (branch_kind P.Seal.TELLS) (T.means desk.old.turns)
         (T.saw desk.old.turns) (T.means desk.new.turns) (T.saw desk.new.turns)
         (P.counts desk.old.port.now) (P.counts desk.new.port.now)) }
@@ -84,6 +85,7 @@ fn carry_out<T: Turns<Branch<P::Seal>>, P: Port, G: Pager, L: MergeLaw>(
     ensures device { desk.new.port.ghost_name ≡ desk.old.port.ghost_name }
     ensures made { IfOk result (WasPassed (branch_kind P.Seal.TELLS) (T.means desk.old.turns)
         (T.saw desk.old.turns) (T.means desk.new.turns) (T.saw desk.new.turns)) }
+    ensures faults { OnOk result ((P.counts desk.new.port.now).faults ≡ (P.counts desk.old.port.now).faults) }
     ensures cause { IfErr result (HasWorkCause (branch_kind P.Seal.TELLS) (T.means desk.old.turns)
         (T.saw desk.old.turns) (T.means desk.new.turns) (T.saw desk.new.turns)
         (P.counts desk.old.port.now) (P.counts desk.new.port.now)) }
@@ -95,7 +97,7 @@ fn carry_out<T: Turns<Branch<P::Seal>>, P: Port, G: Pager, L: MergeLaw>(
     }
 }
 
-/// Looks at the node, and does one piece of work where it has so many bundles or more, or is the root and to be raised.
+/// Surveys the node, and does one piece of work if it has so many bundles or more, or is a root that is to be raised.
 pub(crate) fn relieve<T: Turns<Branch<P::Seal>>, P: Port, G: Pager, L: MergeLaw>(
     desk: &mut Desk<'_, T, P, G, L>,
     node: u32,
@@ -120,6 +122,7 @@ pub(crate) fn relieve<T: Turns<Branch<P::Seal>>, P: Port, G: Pager, L: MergeLaw>
     ensures left { OnOk result ((T.means desk.old.turns).turns < (T.means desk.new.turns).turns) }
     ensures made { IfOk result (WasRelieved (branch_kind P.Seal.TELLS) (T.means desk.old.turns)
         (T.saw desk.old.turns) (T.means desk.new.turns) (T.saw desk.new.turns) node least) }
+    ensures faults { OnOk result ((P.counts desk.new.port.now).faults ≡ (P.counts desk.old.port.now).faults) }
     ensures cause { IfErr result (HasWorkCause (branch_kind P.Seal.TELLS) (T.means desk.old.turns)
         (T.saw desk.old.turns) (T.means desk.new.turns) (T.saw desk.new.turns)
         (P.counts desk.old.port.now) (P.counts desk.new.port.now)) }

@@ -1,4 +1,5 @@
-ghost use Rattle.std.specs.Prelude.{◌≡◌, ◌<◌, length, None};
+ghost use Rattle.std.specs.Prelude.{◌≡◌, ◌<◌, ◌≤◌, length, None, IfSome, IsSome};
+ghost use Rattle.spl_worker.specs.Plans.{IsWhole};
 
 use spl_state::View;
 
@@ -22,10 +23,12 @@ impl Run {
     }
 }
 
-/// All bundles of the node, where it has so many or more.
+/// All bundles of the node, if it has so many or more.
 pub(crate) fn run_of(view: &View, least: usize) -> Option<Run>
     requires { 0 < least }
-    ensures { result ≡ None → length view.now.bundles < least }
+    ensures few { result ≡ None → length view.now.bundles < least }
+    ensures many { IsSome result → least ≤ length view.now.bundles }
+    ensures whole { IfSome result (IsWhole view.now) }
 {
     let bundles = view.bundles.as_slice();
     if bundles.len() < least {

@@ -3,11 +3,11 @@
 pub enum Work {
     /// A frozen memtable was packed, and its branch hangs at the root.
     Packed,
-    /// Bundles of a node passed to one of its children.
+    /// Bundles of a node were flushed to one of its children.
     Flushed,
     /// Bundles of a node were merged into one.
     Compacted,
-    /// Others are at the work that was found, or have done it.
+    /// Other actors are doing the work that was found, or have done it.
     Stale,
     /// The root was raised, or a node was split.
     Split,

@@ -21,17 +21,18 @@ use spl_packer::{Packed, pack};
 use spl_pager::Pager;
 use spl_port::Port;
 
-/// With fewer bundles the root is left alone.
+/// With fewer bundles there is no work at the root.
 const FEW_BUNDLES: usize = 12;
 
-/// With how many bundles a node is worked at: the root with so many, and another one where it is full.
+/// From how many bundles on a node has work: the root from so many on, any other node when it is full.
 fn least_at(node: u32, least: usize) -> usize
     ensures { result ≡ least_at node least }
 {
     if node == ROOT { least } else { MAX_LISTS }
 }
 
-/// Where to look next, where nothing was done: at a child that needs room first, and at the root again where that has room by now.
+/// Where to look next, if nothing was done: at a child that needs room first, or at the root again if that has room by
+/// now.
 fn next_of(at: u32, relief: Relief) -> Option<u32>
     ensures { result ≡ next_of at relief }
 {
@@ -42,7 +43,7 @@ fn next_of(at: u32, relief: Relief) -> Option<u32>
     }
 }
 
-/// What a piece of work at a node is to a worker.
+/// The work that this piece of work at a node was.
 fn work_of(relief: Relief) -> Work
     ensures { result ≡ work_of relief }
 {
@@ -55,7 +56,7 @@ fn work_of(relief: Relief) -> Work
     }
 }
 
-/// Where something was to do, there was work.
+/// There was something to do, so there was work.
 fn unless_idle(work: Work) -> Work
     ensures { result ≡ unless_idle work }
 {
@@ -65,7 +66,7 @@ fn unless_idle(work: Work) -> Work
     }
 }
 
-/// Looks for work from the root on, which has some where it has so many bundles or more, and does one piece of it.
+/// Looks for work from the root on, which has some if it has so many bundles or more, and does one piece of it.
 fn work_from_root<T: Turns<Branch<P::Seal>>, P: Port, G: Pager, L: MergeLaw>(
     desk: &mut Desk<'_, T, P, G, L>,
     least: usize,
@@ -88,6 +89,7 @@ fn work_from_root<T: Turns<Branch<P::Seal>>, P: Port, G: Pager, L: MergeLaw>(
     ensures left { OnOk result ((T.means desk.old.turns).turns < (T.means desk.new.turns).turns) }
     ensures made { IfOk result (WasWork (branch_kind P.Seal.TELLS) (T.means desk.old.turns)
         (T.saw desk.old.turns) (T.means desk.new.turns) (T.saw desk.new.turns) least) }
+    ensures faults { OnOk result ((P.counts desk.new.port.now).faults ≡ (P.counts desk.old.port.now).faults) }
     ensures cause { IfErr result (HasWorkCause (branch_kind P.Seal.TELLS) (T.means desk.old.turns)
         (T.saw desk.old.turns) (T.means desk.new.turns) (T.saw desk.new.turns)
         (P.counts desk.old.port.now) (P.counts desk.new.port.now)) }
@@ -102,8 +104,8 @@ fn work_from_root<T: Turns<Branch<P::Seal>>, P: Port, G: Pager, L: MergeLaw>(
     }
 }
 
-/// Does one piece of work: packs a frozen memtable, or else passes bundles down from the root, merges them, or splits nodes, where the root
-/// has many. Nothing is waited for.
+/// Does one piece of work: packs a frozen memtable, or else, if the root has many bundles, flushes them down, merges
+/// them, or splits nodes. It does not wait.
 pub fn work_once<T: Turns<Branch<P::Seal>>, P: Port, G: Pager, L: MergeLaw>(
     desk: &mut Desk<'_, T, P, G, L>,
 ) -> Result<Work, CallFault>
@@ -125,13 +127,14 @@ pub fn work_once<T: Turns<Branch<P::Seal>>, P: Port, G: Pager, L: MergeLaw>(
     ensures device { desk.new.port.ghost_name ≡ desk.old.port.ghost_name }
     ensures port { NeverFell (P.counts desk.old.port.now) (P.counts desk.new.port.now) }
 
-    // A turn of this call hung the branch; passed the bundles; ended the merge; raised the root, or split the node; or showed the root with
-    // fewer than 12 bundles, while another one found no frozen memtable that nobody picked.
+    // A turn of this call hung the branch; flushed the bundles; ended the merge; raised the root, or split the node; or
+    // showed the root with fewer than 12 bundles, while another one found no frozen memtable that nobody picked.
     ensures made { IfOk result (WasWork (branch_kind P.Seal.TELLS) (T.means desk.old.turns)
         (T.saw desk.old.turns) (T.means desk.new.turns) (T.saw desk.new.turns) 12) }
     ensures nothing_there { (running : ℕ) → result ≡ Ok (Work.Idle running) → (history : History)
         → T.saw desk.old.turns history → WasAnswered (branch_kind P.Seal.TELLS) (T.means desk.old.turns) history
         (T.means desk.new.turns) (T.saw desk.new.turns) (λ answer. answer ≡ Nothing) }
+    ensures faults { OnOk result ((P.counts desk.new.port.now).faults ≡ (P.counts desk.old.port.now).faults) }
     ensures cause { IfErr result (HasWorkCause (branch_kind P.Seal.TELLS) (T.means desk.old.turns)
         (T.saw desk.old.turns) (T.means desk.new.turns) (T.saw desk.new.turns)
         (P.counts desk.old.port.now) (P.counts desk.new.port.now)) }

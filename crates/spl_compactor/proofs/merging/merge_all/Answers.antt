@@ -1,4 +1,4 @@
-use Rattle.std.proofs.Common.{ap, arith}
+use Rattle.std.proofs.Common.{◌∙◌, ap, arith}
 use Rattle.std.specs.Prelude.{Ok}
 use Rattle.spl_desk.specs.Branches.{branch_kind}
 use Rattle.spl_desk.specs.Quiet.{HasWorkCause}
@@ -53,4 +53,5 @@ loop-preserved g c =
       ready = c.merge_once.ensures.ready;
       under_way = λ least way. c.in_ok-merge_once.ensures.goes_on (ap Ok c.if-not-branch.false) least (inv.under_way least way);
       port = counts_on (g.P.Port.counts c.args.port.now) (g.P.Port.counts c.loop.port) (g.P.Port.counts c.merge_once.new.port) inv.port c.merge_once.ensures.port;
+      faults = c.in_ok-merge_once.ensures.faults ∙ inv.faults;
     }

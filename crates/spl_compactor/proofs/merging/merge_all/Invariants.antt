@@ -1,4 +1,4 @@
-use Rattle.std.proofs.Common.{ℕ}
+use Rattle.std.proofs.Common.{◌≡◌, ℕ}
 use Rattle.spl_desk.specs.Branches.{branch_kind}
 use Rattle.spl_desk.specs.Calls.{MadeFew, NeverFell}
 use Rattle.spl_desk.specs.Quiet.{IsQuiet}
@@ -17,6 +17,7 @@ invariant-loop g l =
       ready : g.T.Turns.ready l.turns;
       under_way : (least : ℕ) → IsUnderWay tells old least l.initial.builder l.initial.merged → IsUnderWay tells now least l.builder l.merged;
       port : NeverFell (g.P.Port.counts l.initial.port) (g.P.Port.counts l.port);
+      faults : (g.P.Port.counts l.port).faults ≡ (g.P.Port.counts l.initial.port).faults;
     }
 
 abbrev pub decreases-loop : goal.decreases-loop

@@ -1,4 +1,4 @@
-use Rattle.std.proofs.Common.{◌≢◌, sym, ap, ◌∙◌, arith}
+use Rattle.std.proofs.Common.{◌≢◌, refl, sym, ap, ◌∙◌, arith}
 use Rattle.std.specs.Prelude.{Ok}
 use Rattle.spl_desk.specs.Branches.{branch_kind}
 use Rattle.spl_desk.specs.Quiet.{HasWorkCause}
@@ -18,6 +18,7 @@ loop-turns-init g c =
       stopped = c.requires.stopped;
       stage = c.requires.stage;
       counts = counts_same (g.P.Port.counts c.args.port.now);
+      faults = refl;
     }
 
 pub extend-requires-clause-holds : goal.extend-requires-clause-holds
@@ -44,6 +45,7 @@ loop-turns-preserved g c =
       stopped = extended_stopped mid new c.finish_once.new.builder c.extend.new.builder more needs.stopped;
       stage = extended_stage mid new c.finish_once.new.builder c.extend.new.builder more needs.stage;
       counts = counts_on (g.P.Port.counts c.args.port.now) (g.P.Port.counts c.loop-turns.port) (g.P.Port.counts c.finish_once.new.port) inv.counts c.in_ok-finish_once.ensures.counts;
+      faults = c.in_ok-finish_once.ensures.faults ∙ inv.faults;
     }
 
 pub returns-in_err-extend-in-Needs-clause-quiet : goal.returns-in_err-extend-in-Needs-clause-quiet
@@ -77,4 +79,4 @@ returns-in-Empty-clause-none_same g c = λ is holding had.
 pub returns-in-Built-clause-built : goal.returns-in-Built-clause-built
 returns-in-Built-clause-built g c =
     builds_at g.P.Seal.Seal.TELLS (g.T.Turns.means c.args.turns.now) (g.T.Turns.means c.loop-turns.turns) c.args.builder.now c.loop-turns.builder
-    _ c.loop-turns.invariant.grown (rw c.in-Built.is at c.in_ok-finish_once.ensures.built)
+    _ c.loop-turns.invariant.grown (rw c.in-Built.is at c.in_ok-finish_once.ensures.pages) (rw c.in-Built.is at c.in_ok-finish_once.ensures.built)

@@ -18,6 +18,7 @@ invariant-loop-turns g l =
       stopped : l.builder.stopped ≡ None;
       stage : l.builder.stage ≢ Over;
       counts : NeverFell (g.P.Port.counts l.initial.port) (g.P.Port.counts l.port);
+      faults : (g.P.Port.counts l.port).faults ≡ (g.P.Port.counts l.initial.port).faults;
     }
 
 abbrev pub decreases-loop-turns : goal.decreases-loop-turns

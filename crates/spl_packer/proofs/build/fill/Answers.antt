@@ -1,4 +1,4 @@
-use Rattle.std.proofs.Common.{subst, arith}
+use Rattle.std.proofs.Common.{◌∙◌, subst, arith}
 use Rattle.spl_message.specs.Entries.{Entries}
 use Rattle.spl_desk.specs.Branches.{branch_kind}
 use Rattle.spl_desk.specs.Quiet.{HasWorkCause}
@@ -23,6 +23,7 @@ loop-key-preserved g c =
           (subst (λ (left : Entries). IsFilling g.P.Seal.Seal.TELLS mid c.loop-key.builder c.args.picked.now left) c.in-Some.ensures.steps c.loop-key.invariant.filling)
           c.in_ok-add.ensures.adds;
       port = counts_on (g.P.Port.counts c.args.port.now) (g.P.Port.counts c.loop-key.port) (g.P.Port.counts c.add.new.port) c.loop-key.invariant.port c.add.ensures.counts;
+      faults = c.in_ok-add.ensures.faults ∙ c.loop-key.invariant.faults;
     }
 
 pub returns-in_err-add-clause-quiet : goal.returns-in_err-add-clause-quiet

@@ -1,3 +1,4 @@
+use Rattle.std.proofs.Common.{◌≡◌}
 use Rattle.spl_desk.specs.Branches.{branch_kind}
 use Rattle.spl_desk.specs.Calls.{MadeFew, NeverFell}
 use Rattle.spl_desk.specs.Quiet.{IsQuiet}
@@ -14,4 +15,5 @@ invariant-loop-key g l =
       ready : g.T.Turns.ready l.turns;
       filling : IsFilling g.P.Seal.Seal.TELLS now l.builder l.picked l.key-iterator;
       port : NeverFell (g.P.Port.counts l.initial.port) (g.P.Port.counts l.port);
+      faults : (g.P.Port.counts l.port).faults ≡ (g.P.Port.counts l.initial.port).faults;
     }

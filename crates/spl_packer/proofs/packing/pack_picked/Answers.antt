@@ -1,9 +1,9 @@
 use Rattle.std.proofs.Common.{[], inl}
 use Rattle.spl_desk.specs.Branches.{branch_kind}
 use Rattle.spl_desk.specs.Quiet.{HasWorkCause}
-use Rattle.spl_desk.proofs.Quiet.{cause_behind, counts_same, quiet_then}
+use Rattle.spl_desk.proofs.Quiet.{cause_behind, counts_same, made_before, quiet_then}
 use Rattle.spl_enter.specs.Turning.{HasTurnCause}
-use Rattle.spl_packer.specs.Outcomes.{ShowsFull, ShowsPacked}
+use Rattle.spl_packer.specs.Outcomes.{ShowsFull, ShowsPacked, ShowsRoom}
 use Rattle.spl_packer.specs.Packs.{packs}
 use Rattle.spl_packer.specs.declared.packed.Packed.TheVariants as packed
 use Rattle.spl_packer.proofs.Outcomes.{picked_on}
@@ -105,3 +105,35 @@ pub returns-then-branch-clause-made : goal.returns-then-branch-clause-made
 returns-then-branch-clause-made g c = λ history had.
     made_so (branch_kind g.P.Seal.Seal.TELLS) (g.T.Turns.means c.args.desk.now.turns) (g.T.Turns.means c.is_root_full.new.turns) history (g.T.Turns.saw c.is_root_full.new.turns)
     ShowsFull (ShowsPacked packed.NeedsFlush) (λ turn is. inl is) (c.in_ok-is_root_full.ensures.full c.if-branch.true history had)
+
+pub returns-in_err-branch-clause-looked : goal.returns-in_err-branch-clause-looked
+returns-in_err-branch-clause-looked g c = λ wrote.
+    made_before (branch_kind g.P.Seal.Seal.TELLS) (g.T.Turns.means c.args.desk.now.turns) (g.T.Turns.means c.is_root_full.new.turns) (g.T.Turns.means c.build.new.turns)
+    (g.T.Turns.saw c.args.desk.now.turns) (g.T.Turns.saw c.is_root_full.new.turns) (g.T.Turns.saw c.build.new.turns)
+    ShowsRoom c.is_root_full.ensures.quiet.same (c.in_ok-is_root_full.ensures.room c.if-branch.false) c.build.ensures.quiet
+
+pub returns-in_err-publish_built-clause-looked : goal.returns-in_err-publish_built-clause-looked
+returns-in_err-publish_built-clause-looked g c = λ wrote.
+    let kind = branch_kind g.P.Seal.Seal.TELLS in
+    let seen = g.T.Turns.means c.is_root_full.new.turns in
+    let published = g.T.Turns.means c.publish_built.new.turns in
+    let between = g.T.Turns.saw c.is_root_full.new.turns in
+    let sees = g.T.Turns.saw c.publish_built.new.turns in
+    made_before kind (g.T.Turns.means c.args.desk.now.turns) seen published (g.T.Turns.saw c.args.desk.now.turns) between sees
+    ShowsRoom c.is_root_full.ensures.quiet.same (c.in_ok-is_root_full.ensures.room c.if-branch.false)
+    (quiet_then kind seen (g.T.Turns.means c.build.new.turns) published between (g.T.Turns.saw c.build.new.turns) sees c.build.ensures.quiet c.publish_built.ensures.quiet)
+
+pub returns-clause-looked : goal.returns-clause-looked
+returns-clause-looked g c = λ wrote.
+    let kind = branch_kind g.P.Seal.Seal.TELLS in
+    let seen = g.T.Turns.means c.is_root_full.new.turns in
+    let published = g.T.Turns.means c.publish_built.new.turns in
+    let between = g.T.Turns.saw c.is_root_full.new.turns in
+    let behind = g.T.Turns.saw c.publish_built.new.turns in
+    let new = g.T.Turns.means c.hang.new.turns in
+    let sees = g.T.Turns.saw c.hang.new.turns in
+    made_before kind (g.T.Turns.means c.args.desk.now.turns) seen new (g.T.Turns.saw c.args.desk.now.turns) between sees
+    ShowsRoom c.is_root_full.ensures.quiet.same (c.in_ok-is_root_full.ensures.room c.if-branch.false)
+    (quiet_then kind seen published new between behind sees
+    (quiet_then kind seen (g.T.Turns.means c.build.new.turns) published between (g.T.Turns.saw c.build.new.turns) behind c.build.ensures.quiet c.publish_built.ensures.quiet)
+    c.hang.ensures.quiet)

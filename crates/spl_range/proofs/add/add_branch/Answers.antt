@@ -23,6 +23,7 @@ loop-scan-init g c =
       order = λ tells. subst (λ (s : Scan). AreEntries (left_of s)) (sym fresh) (fresh_order span branch (c.in_ok-scan.ensures.order tells));
       come = λ tells. subst (λ (s : Scan). ComeTo rule (left_of s) found (left_of (fresh_scan span branch)) found) (sym fresh) (λ key cell. refl);
       counts = reads_none (g.P.Port.counts c.args.port.now);
+      faults = refl;
     }
 
 pub returns-in_err-add_entry-clause-cause : goal.returns-in_err-add_entry-clause-cause

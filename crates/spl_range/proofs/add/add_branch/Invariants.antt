@@ -13,6 +13,7 @@ invariant-loop-scan g l = record {
   order : g.P.Seal.Seal.TELLS ≡ true → AreEntries (left_of l.scan);
   come : g.P.Seal.Seal.TELLS ≡ true → ComeTo (g.L.MergeLaw.rule l.law) (left_of l.scan) l.found.entries (left_of (fresh_scan l.span l.branch.value)) l.fn.found.entries;
   counts : OnlyReads (g.P.Port.counts l.fn.port) (g.P.Port.counts l.port);
+  faults : (g.P.Port.counts l.port).faults ≡ (g.P.Port.counts l.fn.port).faults;
 }
 
 abbrev pub decreases-loop-scan : goal.decreases-loop-scan

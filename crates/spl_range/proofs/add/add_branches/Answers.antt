@@ -23,6 +23,7 @@ loop-left-preserved g c =
     record {
       within = omega (arith, within);
       counts = reads_on (g.P.Port.counts c.args.port.now) (g.P.Port.counts c.loop-left.port) (g.P.Port.counts c.add_branch.new.port) c.loop-left.invariant.counts c.in_ok-add_branch.ensures.counts;
+      faults = c.in_ok-add_branch.ensures.faults ∙ c.loop-left.invariant.faults;
       adds = λ tells key inside.
           adds_next rule (λ b. table_of b.value) shared (c.loop-left.left - 1) c.loop-left.left branch first was now key before within
           (subst (λ b. AddsAt rule (λ (k : List ℕ). option_to_list (message_at (table_of b.value) k)) was now key) c.index-shared-left.is (c.in_ok-add_branch.ensures.told tells key inside))

@@ -9,6 +9,7 @@ abbrev pub invariant-loop-left : goal.invariant-loop-left
 invariant-loop-left g l = record {
   within : l.left ≤ length l.shared;
   counts : OnlyReads (g.P.Port.counts l.fn.port) (g.P.Port.counts l.port);
+  faults : (g.P.Port.counts l.port).faults ≡ (g.P.Port.counts l.fn.port).faults;
   adds : g.P.Seal.Seal.TELLS ≡ true → AddsUnder (g.L.MergeLaw.rule l.law) l.span (from (g.L.MergeLaw.rule l.law) (λ b. table_of b.value) l.shared l.left) l.fn.found.entries l.found.entries;
 }
 

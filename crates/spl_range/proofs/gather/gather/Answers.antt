@@ -88,4 +88,5 @@ down-preserved g c =
           none_then_none kind old history mid new (g.T.Turns.saw c.down.desk.turns) (g.T.Turns.saw c.descend.new.turns) (alike inv.same) (inv.walk history saw)
           (λ seen saw. came_quietly kind mid seen new (g.T.Turns.saw c.descend.new.turns) 1 (arrival_in new.at next ∷ []) (c.in_ok-sight.ensures.walk seen saw));
       counts = reads_on (g.P.Port.counts c.args.desk.now.port.now) (g.P.Port.counts c.down.desk.port.now) (g.P.Port.counts c.add_branches.new.port) inv.counts c.in_ok-add_branches.ensures.counts;
+      faults = c.in_ok-add_branches.ensures.faults ∙ inv.faults;
     }

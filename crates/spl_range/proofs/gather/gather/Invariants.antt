@@ -31,6 +31,7 @@ invariant-down g l =
           ≡ act_all old.rule key (rest old.rule old.at l.fn.sight.node key) (option_to_list (message_in l.fn.found.entries key));
       walk : (history : History) → g.T.Turns.saw l.fn.desk.turns history → MadeNoCall kind old history now (g.T.Turns.saw l.desk.turns);
       counts : OnlyReads (g.P.Port.counts l.fn.desk.port.now) (g.P.Port.counts l.desk.port.now);
+      faults : (g.P.Port.counts l.desk.port.now).faults ≡ (g.P.Port.counts l.fn.desk.port.now).faults;
     }
 
 abbrev pub decreases-down : goal.decreases-down

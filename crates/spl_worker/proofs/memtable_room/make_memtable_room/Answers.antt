@@ -93,6 +93,7 @@ room-preserved-in-NotOldest g c =
       law = c.pack.ensures.law ∙ c.room.invariant.law;
       pager = c.pack.ensures.pager ∙ c.room.invariant.pager;
       device = c.pack.ensures.device ∙ c.room.invariant.device;
+      faults = c.in_ok-pack.ensures.faults ∙ c.room.invariant.faults;
     }
 
 pub returns-in_err-make_room-in-NeedsFlush-clause-quiet : goal.returns-in_err-make_room-in-NeedsFlush-clause-quiet
@@ -157,4 +158,5 @@ room-preserved g c =
       law = c.make_room.ensures.law ∙ c.pack.ensures.law ∙ c.room.invariant.law;
       pager = c.make_room.ensures.pager ∙ c.pack.ensures.pager ∙ c.room.invariant.pager;
       device = c.make_room.ensures.device ∙ c.pack.ensures.device ∙ c.room.invariant.device;
+      faults = c.in_ok-make_room-in-NeedsFlush.ensures.faults ∙ c.in_ok-pack.ensures.faults ∙ c.room.invariant.faults;
     }

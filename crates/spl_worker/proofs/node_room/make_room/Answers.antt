@@ -22,6 +22,7 @@ room-init g c =
       law = refl;
       pager = refl;
       device = refl;
+      faults = refl;
       named = c.requires.known;
     }
 
@@ -88,6 +89,7 @@ room-preserved g c =
       law = c.relieve.ensures.law ∙ c.room.invariant.law;
       pager = c.relieve.ensures.pager ∙ c.room.invariant.pager;
       device = c.relieve.ensures.device ∙ c.room.invariant.device;
+      faults = c.in_ok-relief.ensures.faults ∙ c.room.invariant.faults;
       named = subst (λ (n : ℕ). IsNamed new n) (sym c.next_for-at.ensures) (next_named kind mid new between sees c.args.node c.room.at MAX_LISTS c.in_ok-relief.relief (still_named old new c.args.node went.told c.requires.known) (still_named mid new c.room.at c.in_ok-relief.ensures.went.told c.room.invariant.named) c.in_ok-relief.ensures.made);
     }
 

@@ -59,6 +59,7 @@ work-preserved g c =
       law = c.relieve.ensures.law ∙ c.work.invariant.law;
       pager = c.relieve.ensures.pager ∙ c.work.invariant.pager;
       device = c.relieve.ensures.device ∙ c.work.invariant.device;
+      faults = c.in_ok-relief.ensures.faults ∙ c.work.invariant.faults;
       named = search_named kind mid new between sees c.work.at c.least_at.result c.in-Some.next c.in_ok-relief.relief (sym c.next_of.ensures ∙ c.in-Some.is) c.in_ok-relief.ensures.made;
     }
 

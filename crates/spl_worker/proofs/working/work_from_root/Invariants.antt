@@ -15,6 +15,7 @@ invariant-work g l =
       law : l.desk.law.now ≡ l.initial.desk.law.now;
       pager : l.desk.pager.now ≡ l.initial.desk.pager.now;
       device : l.desk.port.ghost_name ≡ l.initial.desk.port.ghost_name;
+      faults : (g.P.Port.counts l.desk.port.now).faults ≡ (g.P.Port.counts l.initial.desk.port.now).faults;
       named : IsNamed now l.at;
     }
 
