@@ -1,9 +1,3 @@
-pub mod Faults
-pub mod Legal
-pub mod Run
+pub mod Asked
 pub mod Outcome
-pub mod ReportText
-pub mod Status
-pub mod Solo
 pub mod Top
-pub mod Turns

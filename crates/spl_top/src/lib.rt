@@ -4,15 +4,9 @@
 //! are what the shipped program promises.
 #![tactic(auto)]
 
-mod calls;
 mod ending;
-mod one_caller;
-mod report;
-mod run;
 mod top;
 
-pub use one_caller::{Ended, solo};
-pub use report::{Row, one_report, write_report};
 pub use top::splinter;
 
 #[cfg(test)]

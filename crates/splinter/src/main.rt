@@ -1,13 +1,17 @@
 //! The program over standard input and output: see `spl_top` for what it promises.
 //!
-//! `main` is the trusted edge: no clause can say what standard input gives, nor what standard output takes.
+//! `main` is the trusted edge: no clause can say what standard input gives, nor what standard output takes. It makes 16
+//! devices in memory, and hands these, the words and the streams to the top call.
 #![tactic(auto)]
 
 ghost use Rattle.std.specs.Prelude.{◌≡◌, ◌⊎◌, true, codes, length};
 ghost use Rattle.std.specs.Process.{exit_status};
-ghost use Rattle.spl_message.specs.Rule.{newest};
+ghost use Rattle.spl_ops.specs.Rules.{capped};
 ghost use Rattle.spl_top.specs.Top.{Ends, Tells};
 
+use spl_calls::Callbacks;
+use spl_message::{Key, MergeLaw, Value};
+use spl_ops::Capped;
 use spl_port::{Failed, MemPort, Sink, Source, StdSink, StdSource, write_whole};
 use spl_top::splinter;
 use std::alloc::Global;
@@ -24,7 +28,7 @@ fn words<R: Env + AllocGlobal>(rt: &R) -> io::Result<Vec<String>> {
     Ok(words)
 }
 
-/// Tells why there are no words: a word is no text, or memory ran out.
+/// Writes why there are no words: a word is no UTF-8 text, or memory ran out.
 fn refuse<O: Sink>(fault: io::Error, out: &mut O) -> u8
     ensures { Tells (O.means out.old) (O.means out.new) 1 (codes "words\n") result
         ⊎ Tells (O.means out.old) (O.means out.new) 7 (codes "memory\n") result }
@@ -39,7 +43,7 @@ fn refuse<O: Sink>(fault: io::Error, out: &mut O) -> u8
     }
 }
 
-/// The status of the process, which is that of the top call.
+/// The status of the process, which is that of the top call. The program's own merge rule adds numbers up to 1,000.
 fn ended<I: Source, O: Sink>(
     alloc: Global,
     words: &[String],
@@ -48,9 +52,19 @@ fn ended<I: Source, O: Sink>(
     out: &mut O,
 ) -> ExitCode
     requires { length ports.old ≡ 16 }
-    ensures { Ends newest true 1 words.now (I.means input.old) (I.means input.new) (O.means out.old) (O.means out.new) (exit_status result) }
+    ensures { Ends (capped 1000) true 1 words.now (I.means input.old) (I.means input.new) (O.means out.old) (O.means out.new) (exit_status result) }
 {
-    ExitCode::from(splinter(alloc, words, ports, input, out))
+    let law = Capped { cap: 1000 };
+    let own = Callbacks::new(
+        law,
+        move |alloc: Global, key: &Key, older: &Value, newer: &Value| {
+            law.join(alloc, key, older, newer)
+        },
+        move |alloc: Global, key: &Key, old: Option<&Value>, operand: &Value| {
+            law.apply(alloc, key, old, operand)
+        },
+    );
+    ExitCode::from(splinter(alloc, words, ports, &own, input, out))
 }
 
 fn main(rt: HostRuntime) -> ExitCode {

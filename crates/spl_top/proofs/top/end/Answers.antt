@@ -1,30 +1,9 @@
-use Rattle.std.proofs.Common.{◌≡◌, ◌≤◌, length, vec_len, arith, ap, sym, ◌∙◌, subst}
-use Rattle.spl_message.specs.Rule.{newest}
-use Rattle.spl_top.specs.Outcome.{EndsWithInput}
-use Rattle.spl_top.specs.Top.{Tells}
-use Rattle.spl_top.proofs.Tops.{told_from, late_by, cause_told}
+use Rattle.std.proofs.Common.{sym, ap, ◌∙◌, Some}
+use Rattle.spl_words.specs.declared.command.Command.TheVariants.{Load}
+use Rattle.spl_top.proofs.Tops.{loads_by}
 use Rattle.spl_top.proofs.top.end.Goals as goal
 
-pub returns-in-Ok-ending_of_input-clause-told : goal.returns-in-Ok-ending_of_input-clause-told
-returns-in-Ok-ending_of_input-clause-told g c =
-    let o = g.O.Sink.means c.args.out.now in
-    let o' = g.O.Sink.means c.tell-in-Ok-ending_of_input.new.out in
-    let ending = c.in-Ok-ending_of_input.ending in
-    let count : length c.in-Ok.bytes.items ≡ vec_len c.in-Ok.bytes = ap length (sym c.as_slice.ensures.value) ∙ c.as_slice.ensures.len in
-    let bound : length c.in-Ok.bytes.items ≤ 16777217 = omega (arith, count, c.in-Ok.ensures.bound) in
-    told_from newest g.P.Seal.Seal.TELLS 1 c.args.words.now (g.I.Source.means c.args.input.now) (g.I.Source.means c.read_whole.new.input) o o' _ ending.status ending.text.items c.in-Ok.bytes.items
-    (c.are_run.ensures.0 c.if-not-are_run.false) (c.in-Ok.ensures.count (λ e. cc)) c.in-Ok.ensures.ok bound (λ few. c.in-Ok.ensures.end (omega (arith, count)))
-    (subst (EndsWithInput newest g.P.Seal.Seal.TELLS 1 ending.status ending.text.items) c.as_slice.ensures.value c.in-Ok-ending_of_input.ensures.told)
-    (subst (λ text. Tells o o' ending.status text c.tell-in-Ok-ending_of_input.result) c.as_slice-in-Ok-ending_of_input.ensures.value c.tell-in-Ok-ending_of_input.ensures)
-
-pub returns-in-Ok-ending_of_input-clause-no_late_read : goal.returns-in-Ok-ending_of_input-clause-no_late_read
-returns-in-Ok-ending_of_input-clause-no_late_read g c = λ none.
-    late_by _ (vec_len c.in-Ok.bytes) c.in-Ok.ensures.bound (c.in-Ok.ensures.met none) (c.in-Ok.ensures.full none)
-
-pub returns-in-Ok-ending_of_input-clause-cause : goal.returns-in-Ok-ending_of_input-clause-cause
-returns-in-Ok-ending_of_input-clause-cause g c =
-    let o = g.O.Sink.means c.args.out.now in
-    let o' = g.O.Sink.means c.tell-in-Ok-ending_of_input.new.out in
-    let ending = c.in-Ok-ending_of_input.ending in
-    cause_told g.P.Seal.Seal.TELLS (g.P.Port.counts c.args.port.now) (g.P.Port.counts c.ending_of_input.new.port) o o' ending.status ending.text.items c.tell-in-Ok-ending_of_input.result
-    (subst (λ text. Tells o o' ending.status text c.tell-in-Ok-ending_of_input.result) c.as_slice-in-Ok-ending_of_input.ensures.value c.tell-in-Ok-ending_of_input.ensures) c.in-Ok-ending_of_input.ensures.cause
+pub returns-in-Some-Load-clause-loads : goal.returns-in-Some-Load-clause-loads
+returns-in-Some-Load-clause-loads g c =
+    loads_by (g.W.MergeLaw.rule c.args.own.now) g.P.Seal.Seal.TELLS c.args.words.now (g.P.Port.counts c.args.port.now) (g.P.Port.counts c.end_load.new.port) (g.O.Sink.means c.args.out.now) (g.O.Sink.means c.end_load.new.out) c.end_load.result
+    (Load c.in-Some-Load.setup c.in-Some-Load.seed c.in-Some-Load.lines) (sym c.in-Some-Load.ensures.value ∙ ap Some c.in-Some-Load.field-0-is) c.end_load.ensures.loads

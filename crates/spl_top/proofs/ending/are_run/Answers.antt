@@ -1,8 +1,0 @@
-use Rattle.std.proofs.Common.{codes}
-use Rattle.spl_top.proofs.Words.{the_one, one_word}
-use Rattle.spl_top.proofs.ending.are_run.Goals as goal
-
-pub returns-in-len1 : goal.returns-in-len1
-returns-in-len1 c =
-    one_word c.args.words.now c.word-item.result c.as_str.result.now (codes "run") c.eq.result
-    (the_one c.args.words.now c.word-item.result c.in-len1.len_at_least c.in-len1.len_below c.word-item.is) c.as_str.ensures.value c.eq.ensures

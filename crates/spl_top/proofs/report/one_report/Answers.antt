@@ -1,5 +1,0 @@
-use Rattle.spl_top.proofs.OneReport.{one_report_of}
-use Rattle.spl_top.proofs.report.one_report.Goals as goal
-
-pub returns : goal.returns
-returns c = one_report_of
