@@ -1,4 +1,4 @@
-//! What is undone of a job that its actor gives up: the marks of its run, and its names of branches.
+//! How a job is undone that its actor gives up: the marks of its run are cleared, and its references dropped.
 ghost use Rattle.std.specs.Prelude.{◌≡◌, ℕ, ◌<◌, List, ◌++◌};
 ghost use Rattle.spl_base.specs.declared.TheConstants.{ACTORS};
 ghost use Rattle.spl_extent.specs.Pool.{granted_to};
@@ -34,7 +34,7 @@ fn merges(actor: &Actor) -> bool
     matches!(actor.job, Some(Job::Merge { .. }))
 }
 
-/// Ends the names that the actor's job gives to branches: those of its inputs, and of what it published.
+/// Drops the references of the actor's job: those to its inputs, and to what it published.
 pub(crate) fn end_names<B: Content>(refs: &mut Refs<B>, pool: &mut Pool, actor: &Actor)
     requires accounted { (rest : List ℕ)
         × AreAccounted B.extents (named_by actor.now ++ rest) refs.old pool.old }
@@ -55,7 +55,7 @@ pub(crate) fn end_names<B: Content>(refs: &mut Refs<B>, pool: &mut Pool, actor: 
     }
 }
 
-/// Ends the name of a job's branch, where the job published it.
+/// Drops the reference to a job's branch, if the job published it.
 fn end_draft<B: Content>(refs: &mut Refs<B>, pool: &mut Pool, published: bool, number: u64)
     requires accounted { (rest : List ℕ)
         × AreAccounted B.extents (drafted number published ++ rest) refs.old pool.old }

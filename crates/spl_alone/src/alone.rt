@@ -19,14 +19,14 @@ pub struct Alone<B: Content, L: MergeLaw> {
 }
 
 impl<B: Content, L: MergeLaw> Alone<B, L> {
-    /// Takes the core.
+    /// The only holder of this core.
     pub fn new(core: Core<B, L>) -> Alone<B, L>
         ensures { result.core ≡ core }
     {
         Alone { core }
     }
 
-    /// Hands the core out.
+    /// Returns the core.
     pub fn core(self) -> Core<B, L>
         ensures { result ≡ self.core }
     {

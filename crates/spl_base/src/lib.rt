@@ -5,7 +5,7 @@ use std::alloc::{AllocError, AllocFailed};
 use std::error::Error;
 use std::fmt;
 
-/// The actors' numbers are below this one. An actor is a caller or a worker of a store.
+/// How many actors there are: their numbers are below this one. An actor is a caller or a worker of a store.
 pub const ACTORS: u32 = 32;
 
 const _: () = prove!(ACTORS == 32);

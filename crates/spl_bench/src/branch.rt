@@ -17,6 +17,7 @@ use std::rt::Clock;
 /// How many extents the builder is given: room for some 800,000 keys.
 const EXTENTS: u32 = 64;
 
+/// How many keys are looked up.
 pub const LOOKUPS: u32 = 200_000;
 
 /// The key of a number: its four bytes, with the highest first.
@@ -47,7 +48,7 @@ fn builder(alloc: Global) -> Result<Builder<MemPort>, NoMemory>
     Ok(builder)
 }
 
-/// Adds the keys with the numbers below this one. Gives how many were added.
+/// Adds the keys with the numbers below this one. Returns how many were added.
 fn fill(builder: &mut Builder<MemPort>, port: &mut MemPort, count: u32, message: &Message) -> u32
     requires stage { builder.old.stage ≡ Adding }
     requires stopped { builder.old.stopped ≡ None }

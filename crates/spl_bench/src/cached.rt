@@ -9,7 +9,7 @@ use std::alloc::Global;
 use std::rt::Clock;
 use std::thread::{Threads, join};
 
-/// Room for some 3 million keys' pages.
+/// Space for the pages of some 3 million keys.
 const SETS: u32 = 1024;
 
 /// Times lookups among so many keys, whose pages are in a cache.

@@ -28,7 +28,7 @@ fn keys(alloc: Global, count: u32, shared: bool) -> Result<Vec<Key>, NoMemory> {
     Ok(keys)
 }
 
-/// Puts the keys into a new memtable, so many times. Gives how many keys the last one has.
+/// Puts the keys into a new memtable, so many times. Returns how many keys the last one has.
 fn puts(alloc: Global, keys: &[Key]) -> Result<u64> {
     let mut held = 0;
     for _ in 0..ROUNDS {

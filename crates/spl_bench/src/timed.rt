@@ -9,6 +9,7 @@ pub struct Timed {
 }
 
 impl Timed {
+    /// Starts the clock.
     pub fn start(clock: &impl Clock) -> Result<Timed> {
         Ok(Timed {
             start: Instant::now(clock)?,

@@ -8,14 +8,14 @@ use spl_port::Damaged;
 use std::error::Error;
 use std::fmt;
 
-/// Why a look-up in a branch has no answer.
+/// Why a lookup in a branch failed.
 #[derive(Clone, Copy, Debug, PartialEq, Eq)]
 pub enum BranchFault {
     /// The device failed.
     Fault,
-    /// The device gave a page that is none of the branch.
+    /// The device gave bytes that are not the branch's page.
     Damaged(Damaged),
-    /// Memory ran out, or the port's count of reads has no greater value.
+    /// Memory ran out, or the port's count of reads is at its greatest value.
     NoMemory,
 }
 

@@ -12,8 +12,8 @@ use spl_pager::Pager;
 use spl_port::{Port, Seal};
 
 impl<S: Seal> Branch<S> {
-    /// The number of the first leaf page that has an entry not below the key: where a scan from the key on starts. It is `leaves`
-    /// where there is no such page.
+    /// The number of the first leaf page that has an entry not below the key: where a scan from the key on starts. It
+    /// is `leaves` if there is no such page.
     pub fn seek<P: Port<Seal = S>, G: Pager>(
         &self,
         port: &mut P,

@@ -1,4 +1,4 @@
-//! What a page says of a key on the way down. Nothing is copied but a message.
+//! What a page says of a key on the path down. Only a message is copied.
 ghost use Rattle.std.specs.Prelude.{◌≡◌, ◌^◌, ◌-◌, ◌<◌, true, IfOk, IfSome};
 ghost use Rattle.spl_page.specs.AnyPage.{shown_of};
 ghost use Rattle.spl_branch.specs.Visiting.{child_in, message_on, start_on};
@@ -7,7 +7,8 @@ use spl_message::{Key, Message, NoMemory};
 use spl_page::AnyPage;
 use std::alloc::Global;
 
-/// The page that goes on for the key. There is none below a leaf page, nor where all children begin above the key.
+/// The page where the search for the key goes on. There is none below a leaf page, nor if all children begin above the
+/// key.
 pub(crate) fn child_of(page: &AnyPage, key: &Key) -> Option<u32>
     ensures child { result ≡ child_in (shown_of page.now) key.now }
     ensures below { IfSome result (λ child. child < (shown_of page.now).at.page) }
@@ -20,7 +21,7 @@ pub(crate) fn child_of(page: &AnyPage, key: &Key) -> Option<u32>
     }
 }
 
-/// The message of the key, where the way ends at this page.
+/// The message of the key, if the path ends at this page.
 pub(crate) fn message_of(
     alloc: Global,
     page: &AnyPage,
@@ -38,7 +39,7 @@ pub(crate) fn message_of(
     }
 }
 
-/// The first leaf page that has an entry not below the key, where the way ends at this page.
+/// The first leaf page that has an entry not below the key, if the path ends at this page.
 pub(crate) fn start_of(page: &AnyPage, key: &Key) -> u32
     requires { (shown_of page.now).at.leaf ≡ true → (shown_of page.now).at.page < 2 ^ 32 - 1 }
     ensures { result ≡ start_on (shown_of page.now) key.now }

@@ -1,4 +1,4 @@
-//! The way down from the root to a key, which a lookup and a scan share.
+//! The path from the root down to a key, which a lookup and a scan share.
 ghost use Rattle.std.specs.Prelude.{◌≡◌, ◌+◌, ◌<◌, ◌≤◌, true, IfOk, IfErr, OnOk};
 ghost use Rattle.std.specs.Arc.{arc_value};
 ghost use Rattle.spl_page.specs.AnyPage.{shown_of};
@@ -17,7 +17,7 @@ use spl_port::{Port, Seal};
 use std::sync::Arc;
 
 impl<S: Seal> Branch<S> {
-    /// The page where the way from the root to the key ends.
+    /// The page where the path from the root to the key ends.
     pub(crate) fn walk<P: Port<Seal = S>, G: Pager>(
         &self,
         port: &mut P,

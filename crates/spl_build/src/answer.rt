@@ -1,19 +1,19 @@
 use spl_branch::Branch;
 use spl_port::Seal;
 
-/// What the builder answers to a key with its message.
+/// The result of `add`.
 #[derive(Clone, Copy, Debug, PartialEq, Eq)]
 pub enum Add {
-    /// They are added.
+    /// The key was added.
     Done,
-    /// They are not: the next page has no extent left.
+    /// The next page has no extent, so nothing was added.
     Needs,
 }
 
-/// What the builder answers where nothing more is added.
+/// The result of `finish`.
 #[derive(Drop)]
 pub enum Finish<S: Seal> {
-    /// The next page has no extent left.
+    /// The next page has no extent.
     Needs,
     /// Nothing was added, so there is no branch.
     Empty,

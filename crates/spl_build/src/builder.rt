@@ -17,13 +17,13 @@ use std::marker::Model;
 
 /// A branch that is written to a port while its keys come, in rising order.
 ///
-/// It holds one page's bytes at a time, eight bytes for each key, and one index entry for each page that has no parent yet.
-/// An extent is begun when its first page is written.
+/// It holds one page's bytes at a time, eight bytes for each key, and one index entry for each page that has no parent
+/// yet. An extent is begun when its first page is written.
 #[derive(Drop)]
 pub struct Builder<P: Port> {
     work: Work<P>,
     stage: Stage,
-    /// What stopped it first.
+    /// The first fault.
     stopped: Option<BuildFault>,
 }
 
@@ -61,7 +61,7 @@ impl<P: Port> Builder<P> {
         }
     }
 
-    /// Adds a key with its message, which is lent, behind the others. Where the next page has no extent left, nothing is added.
+    /// Adds a key with a borrowed message behind the others. If the next page has no extent, nothing is added.
     pub fn add(
         &mut self,
         port: &mut P,
@@ -97,7 +97,8 @@ impl<P: Port> Builder<P> {
         }
     }
 
-    /// Hands in one more extent, which the builder begins when it writes the first page there. A branch has at most 65,536.
+    /// Hands in one more extent, which the builder begins when it writes the first page there. A branch has at most
+    /// 65,536.
     pub fn give(&mut self, extent: u32) -> Result<(), NoMemory>
         requires stopped { self.old.stopped ≡ None }
         requires stage { self.old.stage ≢ Stage.Over }
@@ -111,7 +112,7 @@ impl<P: Port> Builder<P> {
         self.work.give(extent)
     }
 
-    /// Writes the pages that are left, and gives the branch away. Where the next page has no extent left, the next call goes on from
+    /// Writes the remaining pages and returns the branch. If the next page has no extent, the next call goes on from
     /// there.
     pub fn finish(&mut self, port: &mut P) -> Result<Finish<P::Seal>, BuildFault>
         requires { self.old.stopped ≡ None → self.old.stage ≢ Stage.Over }

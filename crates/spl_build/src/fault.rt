@@ -8,12 +8,12 @@ use std::alloc::{AllocError, AllocFailed};
 use std::error::Error;
 use std::fmt;
 
-/// Why a branch is not built.
+/// Why a branch can't be built.
 #[derive(Clone, Copy, Debug, PartialEq, Eq)]
 pub enum BuildFault {
     /// The device failed.
     Fault,
-    /// Memory ran out, or the port's count of writes has no greater value.
+    /// Memory ran out, or the port's count of writes is at its greatest value.
     NoMemory,
 }
 

@@ -5,7 +5,7 @@ ghost use Rattle.spl_build.specs.Cuts.{cuts_with};
 use spl_message::{Key, NoMemory, fnv};
 use std::alloc::Global;
 
-/// At how many keys a branch may be cut once more.
+/// A branch may be cut at every so many keys.
 const CUT_KEYS: usize = 1024;
 
 /// What is kept of the keys that were added.

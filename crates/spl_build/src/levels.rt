@@ -13,13 +13,13 @@ use std::mem;
 /// The pages that have no parent yet, each with the first key under it.
 #[derive(Drop)]
 pub(crate) struct Levels {
-    /// The pages of the present level, in order.
+    /// The pages of the current level, in order.
     level: Vec<IndexEntry>,
     /// How many of them have a parent.
     packed: usize,
     /// Their parents.
     above: Vec<IndexEntry>,
-    /// How high the level stands over the leaf pages.
+    /// How high the level is above the leaf pages.
     height: u32,
 }
 
@@ -65,7 +65,7 @@ impl Levels {
         self.height
     }
 
-    /// Puts a page at the end of the present level.
+    /// Appends a page to the current level.
     pub(crate) fn push(&mut self, child: u32, first: Key) -> Result<(), NoMemory>
         ensures { OnOk result (self.new ≡ record self.old { waiting = self.old.waiting ++ record { child = child; key = first } ∷ [] }) }
     {

@@ -12,7 +12,7 @@ use std::alloc::Global;
 use std::marker::Model;
 use std::mem;
 
-/// So many extents a branch has at most.
+/// How many extents a branch has at most.
 const MOST_EXTENTS: usize = 65_536;
 
 const _: () = prove!(MOST_EXTENTS == 65_536);
@@ -21,7 +21,7 @@ const _: () = prove!(MOST_EXTENTS == 65_536);
 #[derive(Drop)]
 pub(crate) struct Pages<P: Port> {
     front: Front<P>,
-    /// The present extent, once there is one.
+    /// The current extent, once there is one.
     begun: Option<Begun<P>>,
 }
 
@@ -41,7 +41,7 @@ struct Begun<P: Port> {
     pages: u32,
 }
 
-/// What is left of the pages when all are written.
+/// What the pages become when all are written.
 #[derive(Drop)]
 pub(crate) struct Closed<P: Port> {
     pub(crate) extents: Vec<u32>,
@@ -99,7 +99,7 @@ impl<P: Port> Pages<P> {
         }
     }
 
-    /// Whether the next page has no extent left.
+    /// Whether the next page has no extent.
     pub(crate) fn is_full(&self) -> bool
         ensures value { IsTrue result ↔ IsFull self.now.extents self.now.parts }
         ensures sound { AreParts self.now.number self.now.extents self.now.parts }
@@ -158,7 +158,7 @@ impl<P: Port> Pages<P> {
         Ok(())
     }
 
-    /// Seals what is written, and gives it away.
+    /// Seals what is written, and returns it.
     pub(crate) fn close(&mut self, port: &mut P) -> Result<Closed<P>, PortFault>
         ensures extents { IfOk result (λ closed. closed.extents.items ≡ self.old.extents) }
         ensures parts { IfOk result (λ closed. map P.Seal.means closed.seals.items ≡ self.old.parts) }
@@ -179,7 +179,8 @@ impl<P: Port> Pages<P> {
 }
 
 impl<P: Port> Front<P> {
-    /// The extent that the next page goes to: the one that is written, or the next one where there is none or it is full.
+    /// The extent that the next page goes to: the one that is written, or the next one where there is none or it is
+    /// full.
     fn open(&mut self, port: &mut P, begun: Option<Begun<P>>) -> Result<Begun<P>, PortFault>
         requires sound { IsPages P.Seal.TELLS self.old.number self.old.extents.items (map P.Seal.means self.old.seals.items)
             (option_map (λ b. (P.drafts b.draft, b.pages)) begun) }

@@ -5,6 +5,6 @@ pub enum Stage {
     Adding,
     /// It takes no more keys, and has pages to write.
     Finishing,
-    /// It has given its branch away, or there is none.
+    /// The branch was returned, or there is none.
     Over,
 }

@@ -172,7 +172,8 @@ fn start<P: Port>(
     }
 }
 
-/// The branch of a deleted key and of one with an update, in extent 3, for which the builder asks when all keys are there.
+/// The branch of a deleted key and of one with an update, in extent 3, for which the builder asks when all keys are
+/// there.
 fn of_two<P: Port>(
     rt: &impl Abort,
     alloc: Global,
@@ -254,7 +255,8 @@ fn a_branch_spans_extents(rt: HostRuntime) -> Result<(), Fail> {
     let mut port = MemPort::new(alloc);
     let long = insert(&rt, alloc, &[b'v'; 400]);
     let branch = made(&rt, alloc, &mut port, 14, 4_000, &long);
-    // Nine entries of 409 bytes a leaf page make 445 pages, and 408 children of 10 bytes an index page make two and a root.
+    // Nine entries of 409 bytes a leaf page make 445 pages, and 408 children of 10 bytes an index page make two and a
+    // root.
     assert_eq!(rt;
         (port.writes(), branch.levels(), branch.leaves()),
         (448, 3, 445)

@@ -26,7 +26,7 @@ use std::alloc::Global;
 use std::marker::Model;
 use std::mem;
 
-/// A branch while it is built. After a fault it is of no use.
+/// A branch while it is built. After a fault it is not used again.
 #[derive(Drop)]
 pub(crate) struct Work<P: Port> {
     pages: Pages<P>,
@@ -171,7 +171,7 @@ impl<P: Port> Work<P> {
         Ok(())
     }
 
-    /// Writes the pages that are left. Gives the branch, or none where the next page has no extent left.
+    /// Writes the remaining pages. Returns the branch, or none if the next page has no extent.
     pub(crate) fn finish(&mut self, port: &mut P) -> Result<Option<Branch<P::Seal>>, BuildFault>
         requires { IsFinishing self.old }
         ensures needs { result ≡ Ok None → IsFinishing self.new
@@ -191,7 +191,7 @@ impl<P: Port> Work<P> {
         Ok(Some(self.build(port)?))
     }
 
-    /// Writes the leaf page that is begun, where there is one. Says whether it is written.
+    /// Writes the current leaf page, if there is one. Returns whether it is written.
     fn write_last_leaf(&mut self, port: &mut P) -> Result<bool, BuildFault>
         requires { IsFinishing self.old }
         ensures finishing { OnOk result (IsFinishing self.new) }
@@ -213,7 +213,7 @@ impl<P: Port> Work<P> {
         Ok(true)
     }
 
-    /// Writes the index pages that are left. Says whether all are written.
+    /// Writes the remaining index pages. Returns whether all are written.
     fn write_indexes(&mut self, port: &mut P) -> Result<bool, BuildFault>
         requires sound { IsWork self.old }
         requires leaf { self.old.begun ≡ [] }
@@ -293,7 +293,7 @@ impl<P: Port> Work<P> {
     }
 }
 
-/// Keeps the key, where there is none yet.
+/// Keeps the key, if there is none yet.
 fn set_first(first: &mut Option<Key>, key: &Key)
     ensures { first.new ≡ option_or first.old (Some key.now) }
 {

@@ -1,8 +1,8 @@
 //! `Bundles`: the queue in its slots.
 //!
-//! The bundle with number n lies in slot n % 24. So a bundle never moves: it is written once where it stands,
-//! and the bundles at the front are dropped by raising a number. What a slot holds of a bundle that no longer
-//! stands is not seen, and goes when the slot takes its next list.
+//! The bundle with number n lies in slot n % 24. So a bundle never moves: it is written once into its slot, and bundles
+//! at the front are dropped by raising the first number. Nothing reads what a slot still holds of a dropped bundle; the
+//! slot's next list overwrites it.
 ghost use Rattle.std.specs.Prelude.{◌≡◌, ◌+◌, ◌-◌, ◌^◌, ◌<◌, ◌≤◌, ◌↔◌, min, [], length, IsTrue, IsOk, IfOk, OnOk, OnErr, Err};
 ghost use Rattle.spl_bundle.specs.Numbered.{bundle_at, next_of, live, pushed, dropped_below, merged, marked, released, IsWithinLimits};
 
@@ -11,7 +11,7 @@ use crate::slots::{Slot, copy_slots, empty_slots, fill, fill_joined, mark, relea
 use std::alloc::Global;
 use std::marker::Model;
 
-/// How many bundles can stand.
+/// How many bundles a queue can have.
 pub const MAX_LISTS: usize = 24;
 
 /// How many branches a bundle can have.
@@ -24,7 +24,7 @@ const _: () = prove!(MAX_BRANCHES == 32);
 /// Numbered bundles, oldest first: lists of branch numbers, each with the actor that marked it, if any. In a
 /// clause it is the first bundle's number and the bundles.
 ///
-/// It takes about 6.5 KiB in place: keep it in a `Box` and pass references.
+/// It takes about 6.5 KiB inline: keep it in a `Box` and pass references.
 #[derive(Debug, Drop)]
 pub struct Bundles {
     slots: [Slot; MAX_LISTS],
@@ -56,7 +56,7 @@ impl Bundles {
         }
     }
 
-    /// An equal queue.
+    /// A copy of the queue.
     pub fn copy(&self) -> Bundles
         ensures { result ≡ self.now }
     {
@@ -67,7 +67,7 @@ impl Bundles {
         }
     }
 
-    /// The number of the oldest bundle, or of the next one where none stands.
+    /// The number of the oldest bundle, or of the next one if there is none.
     pub fn first(&self) -> u64
         ensures value { result ≡ self.now.first }
         ensures limits { IsWithinLimits self.now }
@@ -83,7 +83,7 @@ impl Bundles {
         self.next
     }
 
-    /// Whether there is no room for one more bundle.
+    /// Whether the queue is full.
     pub fn is_full(&self) -> bool
         ensures full { IsTrue result ↔ (length self.now.bundles ≡ MAX_LISTS) }
         ensures limits { IsWithinLimits self.now }
@@ -128,7 +128,7 @@ impl Bundles {
         ensures ok { OnOk result (self.new ≡ pushed self.old list.now) }
         ensures accepted { IsOk result ↔ ((length self.old.bundles < MAX_LISTS) × (length list.now ≤ MAX_BRANCHES)) }
 
-        // That the queue is full is said first.
+        // A full queue is reported first.
         ensures lists { length self.old.bundles ≡ MAX_LISTS → result ≡ Err (Limit.Lists MAX_LISTS) }
         ensures branches { length self.old.bundles < MAX_LISTS → MAX_BRANCHES < length list.now
             → result ≡ Err (Limit.Branches (min (length list.now) u32.MAX)) }
@@ -148,7 +148,7 @@ impl Bundles {
         ensures ok { OnOk result (self.new ≡ pushed self.old (live other.now mark)) }
         ensures accepted { IsOk result ↔ ((length self.old.bundles < MAX_LISTS) × (length (live other.now mark) ≤ MAX_BRANCHES)) }
 
-        // That the queue is full is said first.
+        // A full queue is reported first.
         ensures lists { length self.old.bundles ≡ MAX_LISTS → result ≡ Err (Limit.Lists MAX_LISTS) }
         ensures branches { length self.old.bundles < MAX_LISTS → MAX_BRANCHES < length (live other.now mark)
             → result ≡ Err (Limit.Branches (min (length (live other.now mark)) u32.MAX)) }
@@ -161,7 +161,7 @@ impl Bundles {
         Ok(number)
     }
 
-    /// Whether a list of so many branches is taken, and else why not.
+    /// Whether a list of so many branches fits, or why not.
     fn admit(&self, branches: usize) -> Result<(), Limit>
         ensures accepted { IsOk result ↔ ((length self.now.bundles < MAX_LISTS) × (branches ≤ MAX_BRANCHES)) }
         ensures lists { length self.now.bundles ≡ MAX_LISTS → result ≡ Err (Limit.Lists MAX_LISTS) }
@@ -199,8 +199,8 @@ impl Bundles {
         self.next = first;
     }
 
-    /// Merges the bundles from `first` up to `last`: the last holds the output alone, or nothing, the others
-    /// are empty, and none of them keeps its mark. Those that no longer stand are passed over.
+    /// Merges the bundles from `first` up to `last`: the last holds the output alone, or nothing, the others are empty,
+    /// and none of them keeps its mark. Numbers of dropped bundles are skipped.
     pub fn merge(&mut self, first: u64, last: u64, output: Option<u64>)
         requires in_order { first ≤ last }
         requires stands { self.old.first ≤ last }
@@ -214,7 +214,7 @@ impl Bundles {
         fill(&mut self.slots, last, output.as_slice());
     }
 
-    /// Gives the bundles from `first` up to `last` an owner, or none. Those that no longer stand are passed over.
+    /// Gives the bundles from `first` up to `last` an owner, or none. Numbers of dropped bundles are skipped.
     pub fn set_owner(&mut self, first: u64, last: u64, owner: Option<u32>)
         requires in_order { first ≤ last }
         requires stands { self.old.first ≤ last }

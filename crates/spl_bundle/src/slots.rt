@@ -8,7 +8,7 @@ use smallvec::SmallVec;
 use std::alloc::Global;
 use std::array;
 
-/// One bundle, in place.
+/// One bundle, stored inline.
 #[derive(Debug, Drop)]
 pub(crate) struct Slot {
     pub(crate) branches: SmallVec<u64, MAX_BRANCHES>,
@@ -110,7 +110,7 @@ fn clear(slot: &mut Slot, actor: u32)
     }
 }
 
-/// Slots that hold the same.
+/// A copy of the slots.
 pub(crate) fn copy_slots(slots: &[Slot; MAX_LISTS]) -> [Slot; MAX_LISTS]
     requires { All IsSlot slots.now }
     ensures contents { contents result ≡ contents slots.now }

@@ -13,7 +13,7 @@ use spl_port::{At, EXTENT_PAGES, Port, Seal};
 use std::alloc::Global;
 use std::sync::Arc;
 
-/// A cache has at most this many sets.
+/// How many sets a cache has at most.
 pub const SETS: u32 = 4096;
 
 const _: () = prove!(SETS == 4096);

@@ -8,7 +8,7 @@ use spl_port::At;
 use std::sync::Arc;
 use std::sync::atomic::{AtomicBool, Ordering};
 
-/// A read is tried so often while only readers come between.
+/// How often a read is tried while only other readers interfere.
 const TRIES: u32 = 16;
 
 /// What a frame has. Each page keeps its own fact, that it was checked for its place.
@@ -23,7 +23,7 @@ impl Fits for Kept {
     ghost fits = { λ _ _. Unit {0} };
 }
 
-/// The room of one page. Its latch's mark is the page's, or 0 where it has none.
+/// The frame of one page. Its latch's mark is that of the page, or 0 if it has none.
 #[derive(Drop)]
 pub struct Frame {
     latch: Latched<Kept>,
@@ -68,7 +68,7 @@ impl Frame {
         self.used.swap(false, Ordering::Relaxed)
     }
 
-    /// Puts the page in the place of the frame's, unless others hold the frame.
+    /// Replaces the frame's page, unless others hold the frame.
     pub fn replace(&self, page: &Arc<AnyPage>, mark: u32) -> bool {
         let Ok(page) = page.clone() else {
             return false;

@@ -10,19 +10,20 @@ use std::alloc::Global;
 use std::sync::Arc;
 use std::sync::atomic::{AtomicUsize, Ordering};
 
-/// A set has so many frames.
+/// How many frames a set has.
 pub const FRAMES: usize = 8;
 
-/// Frames of which a page may be in any.
+/// The frames of a set. A page of the set may be in any of them.
 #[derive(Drop)]
 pub struct Set {
     frames: Vec<Frame>,
-    /// Where the clock hand stands, counted on and on.
+    /// The position of the clock hand, which is only ever raised.
     hand: AtomicUsize,
     ghost full: { vec_len frames ≡ 8 },
 }
 
 impl Set {
+    /// Frames without pages.
     pub fn new(alloc: Global) -> Result<Set, NoMemory> {
         let mut frames = Vec::with_capacity(alloc, FRAMES)?;
         for _ in 0..FRAMES {
@@ -34,7 +35,7 @@ impl Set {
         })
     }
 
-    /// The page of the place, if one of the frames has it and can be read. Frames with another mark are passed by.
+    /// The page of the place, if one of the frames has it and can be read. Frames with another mark are skipped.
     pub fn find(&self, at: At, mark: u32) -> Option<Arc<AnyPage>>
         ensures { IfSome result (λ page. (shown_of (arc_value page)).at ≡ at) }
     {
@@ -49,8 +50,9 @@ impl Set {
         None
     }
 
-    /// Keeps the page: in the frame that has its mark, if there is one, so that no page is there twice; else in the first
-    /// frame that was not used since the hand passed it and that nobody holds. The hand passes each frame at most once.
+    /// Keeps the page: in the frame that has its mark, if there is one, so that no page is there twice; else in the
+    /// first frame that was not used since the hand passed it and that nobody holds. The hand passes each frame at most
+    /// once.
     pub fn keep(&self, page: &Arc<AnyPage>, mark: u32) {
         for frame in &self.frames {
             if frame.mark() == mark {

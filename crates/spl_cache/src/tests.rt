@@ -85,8 +85,8 @@ fn a_page_is_read_once_and_the_first_of_nine_comes_back(rt: HostRuntime) -> Resu
     Ok(())
 }
 
-/// What two fetches said of a page, where both refused it alike as damaged. The port has no count of reads to ask for, so it is in the
-/// contract: each of the fetches read the page, once.
+/// What two fetches said of a page, where both refused it alike as damaged. The port has no count of reads to ask for,
+/// so it is in the contract: each of the fetches read the page, once.
 fn refused_twice<P: Port>(
     alloc: Global,
     port: &mut P,

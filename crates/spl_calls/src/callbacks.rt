@@ -18,7 +18,7 @@ where
     J: Fn(Global, &Key, &Value, &Value) -> Result<Value, NoMemory> + Drop,
     A: Fn(Global, &Key, Option<&Value>, &Value) -> Result<Value, NoMemory> + Drop,
 {
-    /// The law of these closures. Both may be called on any key and operands, and answer what the rule of `law` says.
+    /// The law of these closures. Both accept any key and operands, and answer what the rule of `law` says.
     pub fn new(law: K, join: J, apply: A) -> Callbacks<K, J, A>
         requires joins { J.IsAlwaysCallable join }
         requires join { JoinsBy (K.rule law) (J.post join) }

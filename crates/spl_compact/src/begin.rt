@@ -1,4 +1,4 @@
-//! The begin of a merge.
+//! How a merge begins.
 ghost use Rattle.std.specs.Prelude.{◌≡◌, ℕ, ◌+◌, ◌<◌, ◌≤◌, true, length, IfOk};
 ghost use Rattle.spl_base.specs.declared.TheConstants.{ACTORS};
 ghost use Rattle.spl_bundle.specs.Numbered.{next_of};
@@ -19,8 +19,8 @@ use spl_message::Content;
 use spl_state::{Branches, Inputs, Job, Parts, Reply, Run, Ticket};
 use std::alloc::Global;
 
-/// Gives the actor the bundles of the node from `first` up to `last` to merge. They carry its mark until they
-/// are merged or the actor gives up, and their branches stay as long.
+/// Gives the actor the bundles of the node from `first` up to `last` to merge. They carry its mark until they are
+/// merged or the actor gives up, and until then their branches stay.
 pub fn start<B: Content>(
     alloc: Global,
     parts: &mut Parts<B>,

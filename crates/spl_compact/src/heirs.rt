@@ -1,12 +1,11 @@
-//! The nodes that hold a run. Where a bundle of the run stands, its last one does, so one look at each node is
-//! enough.
+//! The nodes that hold a run. A node that has a bundle of the run has its last one, so one look at each node is enough.
 ghost use Rattle.std.specs.Prelude.{◌≡◌, ◌<◌, length, position};
 ghost use Rattle.spl_trunk.specs.Trunk.{node_at};
 ghost use Rattle.spl_compact.specs.Installing.{is_heir};
 
 use spl_trunk::Trunk;
 
-/// Whether the last bundle of the run stands in the node and carries the actor's mark.
+/// Whether the node has the last bundle of the run, with the actor's mark.
 pub(crate) fn is_heir(trunk: &Trunk, node: u32, last: u64, actor: u32) -> bool
     requires { node < length trunk.now }
     ensures { result ≡ is_heir last actor (node_at trunk.now node) }
@@ -21,7 +20,7 @@ pub(crate) fn is_heir(trunk: &Trunk, node: u32, last: u64, actor: u32) -> bool
     }
 }
 
-/// The lowest-numbered node where that is so.
+/// The lowest-numbered such node.
 pub(crate) fn first_heir(trunk: &Trunk, last: u64, actor: u32) -> Option<u32>
     ensures { result ≡ position (is_heir last actor) trunk.now }
 {

@@ -1,4 +1,4 @@
-//! A run gives way to its output in a node, and the names of branches that end with that.
+//! How the output replaces a run in a node, and which references are dropped with it.
 ghost use Rattle.std.specs.Prelude.{◌≡◌, ℕ, ◌+◌, ◌<◌, ◌≤◌, ◌^◌, List, [], ◌++◌, length, All, IsSome};
 ghost use Rattle.std.specs.Option.{option_to_list};
 ghost use Rattle.spl_bundle.specs.Numbered.{merged, next_of};
@@ -19,7 +19,7 @@ use spl_refs::Refs;
 use spl_state::{Actor, Job, let_go_all};
 use spl_trunk::Trunk;
 
-/// The run that an actor merged, and the branch that it made of it, where it made one.
+/// The run that an actor merged, and the branch that it made of it, if it made one.
 #[derive(Clone, Copy)]
 pub(crate) struct Outcome {
     pub first: u64,
@@ -37,7 +37,7 @@ pub(crate) fn inputs_of(actor: &Actor) -> &[u64]
     }
 }
 
-/// Puts the output in the place of the run in the node, which then names the output, and the inputs no more.
+/// Replaces the run in the node by the output: the node then refers to the output, and no longer to the inputs.
 pub(crate) fn replace_run<B: Content>(
     trunk: &mut Trunk,
     refs: &mut Refs<B>,
@@ -67,7 +67,7 @@ pub(crate) fn replace_run<B: Content>(
     trunk.merge(node, outcome.first, outcome.last, outcome.output);
 }
 
-/// Drops the bundles at the front of the node that are empty or live for no pivot, with the names they give.
+/// Drops the bundles at the front of the node that are empty or live for no pivot, with their references.
 pub(crate) fn trim<B: Content>(trunk: &mut Trunk, refs: &mut Refs<B>, pool: &mut Pool, node: u32)
     requires exists { node < length trunk.old }
     requires accounted { (rest : List ℕ)
@@ -84,7 +84,7 @@ pub(crate) fn trim<B: Content>(trunk: &mut Trunk, refs: &mut Refs<B>, pool: &mut
     trunk.trim(node);
 }
 
-/// Ends the names that the bundles below `end` give.
+/// Drops the references of the bundles below `end`.
 fn let_go_front<B: Content>(refs: &mut Refs<B>, pool: &mut Pool, lists: &Bundles, end: u64)
     requires made { end ≤ next_of lists.now }
     requires accounted { (rest : List ℕ)
@@ -99,7 +99,7 @@ fn let_go_front<B: Content>(refs: &mut Refs<B>, pool: &mut Pool, lists: &Bundles
     }
 }
 
-/// Ends the names that a job gives to its inputs and its output.
+/// Drops the references of a job to its inputs and its output.
 pub(crate) fn end_names<B: Content>(
     refs: &mut Refs<B>,
     pool: &mut Pool,

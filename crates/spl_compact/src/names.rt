@@ -1,4 +1,4 @@
-//! The branches of a run: their numbers, the branches themselves, and that they are named once more.
+//! The branches of a run: their numbers, the branches themselves, and the job's references to them.
 ghost use Rattle.std.specs.Prelude.{◌≡◌, ℕ, ◌+◌, ◌<◌, ◌≤◌, ◌^◌, ◌++◌, length, map, All, IsSome, IfOk};
 ghost use Rattle.spl_bundle.specs.Numbered.{next_of};
 ghost use Rattle.spl_node.specs.Parts.{branches_from};
@@ -49,7 +49,7 @@ pub(crate) fn share<B: Content>(
     Ok(Branches::of(shared))
 }
 
-/// Names each of the branches once more.
+/// Adds a reference to each of the branches.
 pub(crate) fn hold_all<B: Content>(refs: &mut Refs<B>, numbers: &[u64])
     requires there { All (λ number. IsSome (branch_at refs.old number)) numbers.now }
     requires limit { (number : ℕ) → count_at refs.old number + length numbers.now < 2 ^ 63 }

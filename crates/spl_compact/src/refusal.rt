@@ -27,7 +27,7 @@ pub(crate) fn refusal<B: Content>(node: &Node, first: u64, last: u64) -> Option<
     Some(Reply::Busy { by })
 }
 
-/// Whether there are such bundles, and all of them stand.
+/// Whether there are such bundles, and the node has all of them.
 fn all_stand(lists: &Bundles, first: u64, last: u64) -> bool
     ensures { result ≡ all_stand lists.now first last }
 {

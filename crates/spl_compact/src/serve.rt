@@ -1,4 +1,4 @@
-//! The end of a merge in a node that holds the run.
+//! How a merge ends in a node that has the run.
 ghost use Rattle.std.specs.Prelude.{◌≡◌, ℕ, ◌+◌, ◌<◌, ◌≤◌, Bool, true, false, Option, Some, IfSome};
 ghost use Rattle.spl_base.specs.declared.TheConstants.{ACTORS};
 ghost use Rattle.spl_message.specs.Rule.{Rule};
@@ -18,8 +18,8 @@ use spl_holds::Grip;
 use spl_message::Content;
 use spl_state::{Actors, Job, Parts, Reply};
 
-/// Puts what the actor merged in the place of its run in a node that holds the run, and clears the run's marks
-/// there. `output` says whether the actor published a branch; without one nothing is left of the run.
+/// Replaces the actor's run in a node that has it by what the actor merged, and clears the run's marks there. `output`
+/// says whether the actor published a branch; without one nothing is left of the run.
 ///
 /// While another node holds the run, the job goes on there. It takes no memory, and looks at one bundle of each
 /// node.
@@ -79,7 +79,7 @@ pub fn install<B: Content>(parts: &mut Parts<B>, actor: u32, node: u32, output: 
     }
 }
 
-/// What the actor merged, where it writes the node and made an output exactly where it says so.
+/// What the actor merged, if it writes the node and made an output exactly if it says so.
 fn ready<B: Content>(parts: &Parts<B>, actor: u32, node: u32, output: bool) -> Option<Outcome>
     requires { actor < ACTORS }
     ensures { result ≡ ready_in parts.now actor node output }
@@ -98,7 +98,7 @@ fn ready<B: Content>(parts: &Parts<B>, actor: u32, node: u32, output: bool) -> O
     }
 }
 
-/// Tells the actor of the node, where there is one.
+/// Tells the actor of the node, if there is one.
 fn tell(actors: &mut Actors, actor: u32, node: Option<u32>)
     requires known { actor < ACTORS }
     requires number { IfSome node (λ number. number < 4096) }

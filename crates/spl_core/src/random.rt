@@ -221,7 +221,7 @@ const SPLIT: [Deed; 9] = [
     Deed::Abandon,
 ];
 
-/// What an actor is in the midst of.
+/// What an actor is doing.
 #[derive(Drop)]
 struct Seat {
     plan: &'static [Deed],

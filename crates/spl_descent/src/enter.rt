@@ -1,4 +1,4 @@
-//! The begin of a descent.
+//! How a descent begins.
 ghost use Rattle.std.specs.Prelude.{◌≡◌, ◌<◌, true, map, IfOk};
 ghost use Rattle.spl_base.specs.declared.TheConstants.{ACTORS};
 ghost use Rattle.spl_message.specs.Rule.{Rule};

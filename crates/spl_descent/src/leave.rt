@@ -1,4 +1,4 @@
-//! The end of a descent.
+//! How a descent ends.
 ghost use Rattle.std.specs.Prelude.{◌≡◌, ◌≢◌, ◌<◌, true};
 ghost use Rattle.spl_base.specs.declared.TheConstants.{ACTORS};
 ghost use Rattle.spl_message.specs.Rule.{Rule};

@@ -1,10 +1,10 @@
 /// Who has an extent.
 #[derive(Clone, Copy, Debug, PartialEq, Eq, Hash)]
 pub enum Owner {
-    /// Nobody's, so the next grant may give it.
+    /// It is free: the next grant may give it.
     Free,
-    /// An actor's, which fills it with the pages of a branch that is not published yet.
+    /// It is granted to an actor, which fills it with the pages of a branch that is not published yet.
     Granted { actor: u32 },
-    /// A published branch's, by the branch's number.
+    /// It is held by the published branch with this number.
     Held { branch: u64 },
 }

@@ -9,7 +9,7 @@ use spl_numbers::Numbers;
 use std::alloc::Global;
 use std::marker::Model;
 
-/// A store has at most this many extents.
+/// How many extents a store has at most.
 pub const EXTENTS: u32 = 65_536;
 
 const _: () = prove!(EXTENTS == 65_536);
@@ -159,7 +159,7 @@ impl Pool {
         granted.remove(extent);
     }
 
-    /// Takes back an extent of a branch that nothing names any more.
+    /// Takes back an extent of a branch that has no references any more.
     pub fn release(&mut self, extent: u32, branch: u64)
         requires { slice_get self.old extent ≡ Some (Owner.Held branch) }
         ensures { self.new ≡ slice_set self.old extent Owner.Free }

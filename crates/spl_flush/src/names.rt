@@ -1,4 +1,4 @@
-//! The branches that bundles name: those of a new bundle are counted, and those of dropped bundles let go.
+//! References of bundles to branches: those of a new bundle are added, and those of dropped bundles dropped.
 ghost use Rattle.std.specs.Prelude.{◌≡◌, ℕ, ◌+◌, ◌<◌, ◌≤◌, ◌^◌, List, ◌++◌, IsSome, length};
 ghost use Rattle.spl_bundle.specs.declared.bundles.TheConstants.{MAX_BRANCHES};
 ghost use Rattle.spl_bundle.specs.Numbered.{next_of};
@@ -14,7 +14,7 @@ use spl_message::Content;
 use spl_refs::Refs;
 use spl_state::let_go_all;
 
-/// Counts each of the branches once more.
+/// Adds a reference to each of the branches.
 pub(crate) fn hold_all<B: Content>(refs: &mut Refs<B>, numbers: &[u64])
     requires there { (number : ℕ) → 0 < times number numbers.now → IsSome (held_at refs.old number) }
     requires few { (number : ℕ) → count_at refs.old number < 2 ^ 62 }
@@ -28,7 +28,7 @@ pub(crate) fn hold_all<B: Content>(refs: &mut Refs<B>, numbers: &[u64])
     }
 }
 
-/// Ends the names that the bundles below the number give to branches.
+/// Drops the references of the bundles below the number.
 pub(crate) fn let_go_below<B: Content>(
     refs: &mut Refs<B>,
     pool: &mut Pool,

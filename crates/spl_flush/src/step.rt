@@ -30,9 +30,8 @@ use spl_refs::Refs;
 use spl_state::{Parts, Reply};
 use spl_trunk::Trunk;
 
-/// Makes what is live in the parent for the child the child's newest bundle, unless it is nothing, and drops
-/// the parent's bundles that are live for no child any more. Branches that nothing names any more give their
-/// extents back.
+/// Makes what is live in the parent for the child the child's newest bundle, unless it is nothing, and drops the
+/// parent's bundles that are live for no child any more. Branches without references free their extents.
 ///
 /// Nobody writes a node that does not exist, so an actor that names one is unfit.
 pub fn flush<B: Content>(parts: &mut Parts<B>, actor: u32, parent: u32, child: u32) -> Reply<B>
@@ -109,7 +108,7 @@ fn live_len(node: &Node, pivot: u32) -> u32
     lists.live_len(mark) as u32
 }
 
-/// Makes what is live for the pivot the newest bundle of its child, if it is anything.
+/// Makes what is live for the pivot the newest bundle of its child, unless it is nothing.
 fn receive<B: Content>(trunk: &mut Trunk, refs: &mut Refs<B>, parent: u32, pivot: u32, child: u32)
     requires parent { parent < length trunk.old }
     requires child { child < length trunk.old }
@@ -149,7 +148,7 @@ fn joined(lists: &Bundles, mark: u64) -> ArrayVec<u64, MAX_BRANCHES>
     joined
 }
 
-/// Leaves nothing live for the pivot, and lets go of the bundles that no pivot has live any more.
+/// Leaves nothing live for the pivot, and drops the bundles that are live for no pivot any more.
 fn pass<B: Content>(trunk: &mut Trunk, refs: &mut Refs<B>, pool: &mut Pool, node: u32, pivot: u32)
     requires exists { node < length trunk.old }
     requires within { pivot < length (node_at trunk.old node).pivots }

@@ -14,6 +14,7 @@ pub struct Counts {
 }
 
 impl Counts {
+    /// Counts one more grip.
     pub fn add(&mut self, grip: Grip)
         requires { IsFew self.old }
         ensures { IsAdded self.old self.new grip }
@@ -26,6 +27,7 @@ impl Counts {
         }
     }
 
+    /// Counts one grip fewer.
     pub fn drop(&mut self, grip: Grip)
         requires reads { one_if (is_read grip) ≤ self.old.reads }
         requires claims { one_if (is_claim grip) ≤ self.old.claims }

@@ -1,4 +1,4 @@
-/// What an actor has of a node.
+/// What an actor has on a node.
 #[derive(Clone, Copy, Debug, PartialEq, Eq, Hash)]
 pub enum Grip {
     /// Nothing.

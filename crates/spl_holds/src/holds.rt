@@ -13,7 +13,7 @@ use spl_base::{ACTORS, NoMemory};
 use std::alloc::Global;
 use std::marker::Model;
 
-/// The trunk has at most this many nodes.
+/// How many nodes the trunk has at most.
 pub const NODES: u32 = 4096;
 
 const _: () = prove!(NODES == 4096);
@@ -43,7 +43,7 @@ impl Model for Holds {
 }
 
 impl Holds {
-    /// Node 0, which nobody holds.
+    /// The grips of a trunk with node 0 alone, which nobody holds.
     pub fn new(alloc: Global) -> Result<Holds, NoMemory>
         ensures root { IfOk result (λ holds. holds ≡ nobody ∷ []) }
         ensures latched { IfOk result (λ holds. All IsLatched holds) }
@@ -79,7 +79,7 @@ impl Holds {
         node
     }
 
-    /// What the actor has of the node.
+    /// What the actor has on the node.
     pub fn grip(&self, actor: u32, node: u32) -> Grip
         requires known { actor < ACTORS }
         requires exists { node < length self.now }
@@ -173,7 +173,7 @@ impl Holds {
         Ok(())
     }
 
-    /// Ends what the actor has of the node, if it has anything.
+    /// Ends the actor's grip on the node, if it has one.
     pub fn leave(&mut self, actor: u32, node: u32)
         requires known { actor < ACTORS }
         requires exists { node < length self.old }
@@ -190,7 +190,7 @@ impl Holds {
         tally.drop(node, grip);
     }
 
-    /// Ends what the actor has of every node.
+    /// Ends all grips of the actor.
     pub fn leave_all(&mut self, actor: u32)
         requires { actor < ACTORS }
         ensures left { self.new ≡ without_actor self.old actor }
@@ -201,7 +201,7 @@ impl Holds {
         }
     }
 
-    /// A node of which the actor has something.
+    /// A node on which the actor has a grip.
     fn any_node(&self, actor: u32) -> Option<u32>
         requires { actor < ACTORS }
         ensures exists { IfSome result (λ node. node < length self.now) }

@@ -49,6 +49,7 @@ impl Owner {
 }
 
 impl Latch {
+    /// No grips.
     pub fn new() -> Latch
         ensures nobody { result ≡ nobody }
         ensures latched { IsLatched result }
@@ -59,6 +60,7 @@ impl Latch {
         }
     }
 
+    /// The actor's grip.
     pub fn grip(&self, actor: u32) -> Grip
         requires { actor < ACTORS }
         ensures { slice_get self.now actor ≡ Some result }
@@ -98,6 +100,7 @@ impl Latch {
         Some(self.readers.trailing_zeros())
     }
 
+    /// Lets the actor read, unless another actor writes.
     pub fn read(&mut self, actor: u32) -> Result<(), Held>
         requires known { actor < ACTORS }
         requires free { slice_get self.old actor ≡ Some Grip.Free }
@@ -113,6 +116,7 @@ impl Latch {
         Ok(())
     }
 
+    /// Lets the actor claim, unless another actor claims or writes.
     pub fn claim(&mut self, actor: u32) -> Result<(), Held>
         requires known { actor < ACTORS }
         requires free { slice_get self.old actor ≡ Some Grip.Free }
@@ -128,6 +132,7 @@ impl Latch {
         Ok(())
     }
 
+    /// Makes the actor's claim a write, unless another actor reads.
     pub fn lock(&mut self, actor: u32) -> Result<(), Held>
         requires known { actor < ACTORS }
         requires claimed { slice_get self.old actor ≡ Some Grip.Claim }
@@ -145,6 +150,7 @@ impl Latch {
         Ok(())
     }
 
+    /// Ends the actor's grip, if it has one.
     pub fn leave(&mut self, actor: u32)
         requires { actor < ACTORS }
         ensures left { self.new ≡ slice_set self.old actor Grip.Free }

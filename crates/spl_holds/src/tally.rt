@@ -11,15 +11,16 @@ use spl_base::NoMemory;
 use spl_numbers::Numbers;
 use std::alloc::Global;
 
-/// What an actor has of all nodes together.
+/// What an actor has on all nodes together.
 #[derive(Debug, Drop)]
 pub struct Tally {
     pub counts: Counts,
-    /// The nodes of which it has something.
+    /// The nodes on which it has a grip.
     pub nodes: Numbers,
 }
 
 impl Tally {
+    /// Nothing.
     pub fn new(alloc: Global) -> Result<Tally, NoMemory>
         ensures counts { IfOk result (λ tally. tally.counts ≡ no_grip) }
         ensures nodes { IfOk result (λ tally. tally.nodes ≡ replicate NODES false) }
@@ -34,6 +35,7 @@ impl Tally {
         })
     }
 
+    /// The actor gets a grip on the node.
     pub fn add(&mut self, node: u32, grip: Grip)
         requires few { IsFew self.old.counts }
         requires new { slice_get self.old.nodes node ≡ Some false }
@@ -57,6 +59,7 @@ impl Tally {
         self.counts.writes += 1;
     }
 
+    /// The actor's grip on the node ends.
     pub fn drop(&mut self, node: u32, grip: Grip)
         requires reads { one_if (is_read grip) ≤ self.old.counts.reads }
         requires claims { one_if (is_claim grip) ≤ self.old.counts.claims }

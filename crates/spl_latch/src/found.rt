@@ -12,8 +12,8 @@ pub struct Found {
 }
 
 impl Found {
-    /// Whether the value could be read under that word, so that a read may succeed if it is tried again at once: another reader came
-    /// or left in between.
+    /// Whether the value could be read under that word, so that a read may succeed if it is tried again at once:
+    /// another reader came or left in between.
     pub fn is_readable(&self) -> bool
         ensures { IsTrue result ↔ (self.now.word % 4 ≡ 1) × (readers self.now.word < 1073741823) }
     {

@@ -6,8 +6,8 @@ use counted_slot::{Counted, FREE, Fits, ONE_READER, PRESENT, TAKEN};
 
 /// A value that many threads may read at the same time, or one may replace.
 ///
-/// Whoever makes a latch states a fact on its values, by the tag: each value that is put in has that fact, and so has each one
-/// that is shown. Beside the value stands a mark, by which a caller may guess what is in there before it reads.
+/// The maker of a latch states a fact about its values by the tag: every value that is put in has that fact, and so has
+/// every value that is shown. Beside the value is a mark, by which a caller may guess what is inside before it reads.
 #[derive(Drop)]
 pub struct Latched<T: Fits + Drop> {
     slot: Counted<Option<T>>,
@@ -36,7 +36,8 @@ impl<T: Fits + Drop> Latched<T> {
 
     /// Reads the value beside other readers.
     ///
-    /// Where the value is not written, it asks for one reader more than it met; else for a value that has just been put back.
+    /// If nobody writes the value, the exchange adds one reader to those that it met; else it expects a value that was
+    /// just put back.
     pub fn try_read(&self) -> Result<Read<'_, T>, Found>
         ensures { IfOk result (λ read. read.claim.tag ≡ self.now.slot) }
     {

@@ -1,6 +1,8 @@
 //! A latch over one value: many threads may read it at the same time, or one may replace it.
 //!
-//! No call waits. A call that does not get the value says which word it met, and whoever made it may try again.
+//! No call waits: one that does not get the value returns the word that it met, and its caller may try again. The word
+//! holds the state, the count of readers and a mark beside the value (`word.rt`). What the values of a latch have in
+//! common is a fact that its maker states (`Fits`); whoever reads one may rely on it.
 #![tactic(auto)]
 
 mod found;

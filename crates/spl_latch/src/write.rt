@@ -3,7 +3,8 @@ ghost use Rattle.std.specs.Prelude.{◌≡◌};
 use crate::word::idle;
 use counted_slot::{Claim, Fits};
 
-/// The right to replace a value, which nobody else reads or writes until then. Each write has to end with a value that is put.
+/// The right to replace a value, which nobody else reads or writes until then. Each write has to end with `put` or
+/// `put_marked`.
 #[must_use]
 pub struct Write<'a, T: Fits + Drop> {
     claim: Claim<'a, Option<T>>,
@@ -18,14 +19,14 @@ impl<'a, T: Fits + Drop> Write<'a, T> {
         Write { claim }
     }
 
-    /// Puts a value in the place of the old one, with the mark 0.
+    /// Replaces the value. The mark is 0.
     pub fn put(self, value: T)
         requires { T.fits self.claim.tag value }
     {
         self.put_marked(value, 0);
     }
 
-    /// Puts a value in the place of the old one, with this mark.
+    /// Replaces the value and its mark.
     pub fn put_marked(self, value: T, mark: u32)
         requires { T.fits self.claim.tag value }
     {

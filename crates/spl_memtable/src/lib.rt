@@ -1,8 +1,8 @@
-//! The memtable: what the latest writes left for their keys, in memory and in the order of the keys.
+//! The memtable: the messages of the latest writes, in memory and in the order of their keys.
 //!
-//! A write to a key that is there is combined with what it has, so a memtable has one message a key, at most 1,024. A
-//! full one is frozen, which changes what may be done with it and not what it has. Readers take slices, a span's keys and
-//! messages: copied from a table that is written, and shared with one that is frozen.
+//! A write to an existing key is combined with the key's message, so a memtable has one message a key, and at most
+//! 1,024 keys. A full one is frozen: it takes no more messages, and its contents stay. Readers take slices, the keys
+//! and messages of a span: copied from the active table, shared with a frozen one.
 #![tactic(auto)]
 
 mod entries;

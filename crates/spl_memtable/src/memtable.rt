@@ -35,12 +35,12 @@ impl Model for Memtable {
     ghost invariant = { λ m. length m.entries.entries ≤ 1024 };
 }
 
-/// What came of a message.
+/// The result of `put`.
 #[derive(Clone, Copy, Debug, PartialEq, Eq)]
 pub enum Put {
-    /// The key has it.
+    /// The message was added.
     Done,
-    /// There is no room for another key.
+    /// The memtable has 1,024 other keys.
     Full,
 }
 
@@ -55,7 +55,7 @@ impl Memtable {
         }
     }
 
-    /// Adds the message to what the key has. Only a new key, or an update of one that is there, takes memory.
+    /// Adds the message to what the key has. Only a new key, or an update of an existing one, takes memory.
     pub fn put<L: MergeLaw>(
         &mut self,
         law: &L,
@@ -117,7 +117,7 @@ impl Memtable {
         Ok(Slice::of(entries))
     }
 
-    /// Ends the writing, which takes no memory.
+    /// Freezes the memtable. It takes no memory.
     pub fn freeze(self) -> Frozen
         ensures { result ≡ self }
     {
@@ -125,7 +125,7 @@ impl Memtable {
     }
 }
 
-/// What a key has after the message. An insert or a delete is what it is.
+/// The key's message once the new one came. An insert or a delete replaces what was there.
 fn joined<L: MergeLaw>(
     alloc: Global,
     law: &L,

@@ -8,8 +8,8 @@ use spl_message::{Key, Message, Span};
 use std::marker::Model;
 use std::sync::Arc;
 
-/// The keys and messages of a span: in memory of its own, or as a part of a frozen memtable that it shares, which no slice
-/// changes and each keeps alive. A clause sees the table of them.
+/// The keys and messages of a span: in memory of its own, or as a part of a frozen memtable that it shares, which no
+/// slice changes and each keeps alive. A clause sees the table of them.
 #[derive(Debug, Drop)]
 pub struct Slice {
     part: Part,
@@ -35,7 +35,7 @@ impl Model for Slice {
 }
 
 impl Slice {
-    /// The slice with these entries, which takes no memory.
+    /// A slice of these entries. It takes no memory.
     pub fn of(entries: Vec<(Key, Message)>) -> Slice
         requires { AreEntries entries.items }
         ensures { result ≡ as_table entries.items }
@@ -45,7 +45,7 @@ impl Slice {
         }
     }
 
-    /// The part of the span of a shared table, which takes no memory.
+    /// The part of a shared table that lies in the span. It takes no memory.
     pub(crate) fn shared(frozen: Arc<Frozen>, span: Span) -> Slice
         ensures { result ≡ part_of span frozen.value }
     {

@@ -201,7 +201,7 @@ impl Merger {
     }
 }
 
-/// Adds the rank of the stream's head, where there is one.
+/// Adds the rank of the stream's head, if there is one.
 fn enqueue(queue: &mut BinaryHeap<Reverse<Rank>>, stream: u32, head: &Option<(Key, Message)>)
     requires { heap_len queue.old < heap_capacity queue.old }
     ensures queued { QueuesHead stream head.now (heap_items queue.old) (heap_items queue.new) }
@@ -232,7 +232,7 @@ fn add<L: MergeLaw>(
     }
 }
 
-/// The answer where this is kept of the key.
+/// The result of a step that keeps this of the key.
 fn answer(key: Key, message: Option<Message>) -> Step
     ensures { result ≡ answer_of key message }
 {

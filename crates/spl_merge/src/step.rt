@@ -1,9 +1,9 @@
 use spl_message::{Key, Message};
 
-/// What a step of a merge comes to.
+/// The result of a step.
 #[derive(Debug, PartialEq, Eq, Drop)]
 pub enum Step {
-    /// The merge has this entry.
+    /// The next entry of the merge.
     Entry(Key, Message),
     /// The merge has nothing for a key: it is outside the span, or has no value at the bottom.
     Dropped,

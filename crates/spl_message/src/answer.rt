@@ -7,7 +7,7 @@ use crate::value::Value;
 pub enum Cause {
     /// The device failed.
     Fault,
-    /// The device gave a page that is no page of the place that was asked for.
+    /// The device gave bytes that are not the page that was asked for.
     Damaged,
     /// No extent was free.
     Full,
@@ -28,8 +28,8 @@ pub enum Answer {
     Missing,
     /// The key's value.
     Value(Value),
-    /// The keys that have a value, with their values, from the start of the span that was asked for up to this end, which is
-    /// the span's end or stands before it.
+    /// The keys that have a value, with their values, from the start of the span that was asked for up to this end,
+    /// which is at most the span's end.
     Pairs { end: Option<Bound>, pairs: Pairs },
     /// The call was stopped.
     Stopped(Cause),

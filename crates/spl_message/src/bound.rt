@@ -13,10 +13,10 @@ use std::marker::Model;
 /// The greatest number of bytes of a bound.
 pub const BOUND_LIMIT: usize = 65;
 
-/// An end of keys that is not included: 1 to 65 bytes, ordered by their bytes as keys are. A clause sees the list of the
+/// An exclusive upper bound of keys: 1 to 65 bytes, ordered by their bytes as keys are. A clause sees the list of the
 /// bytes.
 ///
-/// The bytes stand in the value itself, so making, copying and comparing a bound take no memory.
+/// The bytes are stored inline, so making, copying and comparing a bound take no memory.
 #[derive(Clone, Copy, Debug)]
 pub struct Bound {
     room: [u8; BOUND_LIMIT],

@@ -6,9 +6,9 @@ use crate::key::Key;
 
 /// A branch, as others see it: a table that never changes, with a number, and extents of the file that hold it.
 ///
-/// Where the ghost member `TELLS` is true the branch means its table. Where it is false the device may give anything for its
-/// pages, and no clause speaks of what they hold. No code can ask
-/// which it is, so that what serves one kind of device serves the other.
+/// Where the ghost member `TELLS` is true the branch means its table. Where it is false the device may give anything
+/// for its pages, and no clause speaks of what they hold. No code can ask which it is, so that what serves one kind of
+/// device serves the other.
 pub trait Content: Drop {
     ghost TELLS: { Bool };
 

@@ -9,8 +9,8 @@ use std::alloc::Global;
 
 /// A merge law: what the operand of an update makes of a key's value, and which one operand stands for two.
 ///
-/// Its meaning is a rule, whose fields say that the two agree. A law that stores other people's code says by `ready` that this
-/// code may be called and does what the rule says; every other law is always ready.
+/// Its meaning is a rule, whose fields say that the two agree. A law that stores other people's code says by `ready`
+/// that this code may be called and does what the rule says; every other law is always ready.
 pub trait MergeLaw: Drop {
     ghost rule: { Self → Rule };
 

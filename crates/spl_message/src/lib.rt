@@ -1,10 +1,11 @@
 //! The words of the store: keys, values, the messages that writes leave for a key, the calls and what they answer.
 //!
-//! A history is the list of all calls in the order of their places. What a key holds at a place is one fold of
-//! the messages that the calls above that place put to it (`specs/History.antt`), and every layer answers by that
-//! fold (`specs/Answer.antt`). What an update makes of a value is the rule of a merge law (`specs/Rule.antt`), by
-//! which several messages of a key become one (`combine`) and a last one becomes a value (`settle`). The layers below
-//! a call hold tables of messages (`specs/Table.antt`), which lie in order as entries (`specs/Entries.antt`), and a branch is one that others can ask (`Content`).
+//! A history is the list of all calls in the order of their places. What a key holds at a place is one fold of the
+//! messages that the calls above that place put to it (`specs/History.antt`), and every layer answers by that fold
+//! (`specs/Answer.antt`). What an update makes of a value is the rule of a merge law (`specs/Rule.antt`), by which
+//! several messages of a key become one (`combine`) and a last one becomes a value (`settle`). The layers below a call
+//! hold tables of messages (`specs/Table.antt`), stored in order as entries (`specs/Entries.antt`). `Content` is the
+//! trait of a table that is a branch.
 #![tactic(auto)]
 
 mod answer;

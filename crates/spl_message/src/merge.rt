@@ -1,4 +1,4 @@
-//! One message in the place of two, and the value that a last one comes to.
+//! How two messages are combined into one, and which value the last one leaves.
 ghost use Rattle.std.specs.Prelude.{◌≡◌, IfOk, IsOk, None, Some};
 ghost use Rattle.spl_message.specs.Cell.{Cell};
 ghost use Rattle.spl_message.specs.Message.{act, combine, settle, IsUpdate};
@@ -10,8 +10,8 @@ use crate::value::Value;
 use spl_base::NoMemory;
 use std::alloc::Global;
 
-/// The message that stands for both: a newer insert or delete wins, and a newer update is applied to what an older insert or
-/// delete leaves, or joined with an older update.
+/// The message that stands for both: a newer insert or delete wins, and a newer update is applied to what an older
+/// insert or delete leaves, or joined with an older update.
 pub fn combine<L: MergeLaw>(
     alloc: Global,
     law: &L,
@@ -44,8 +44,7 @@ pub fn combine<L: MergeLaw>(
     }
 }
 
-/// The message that stands for both, as `combine` gives it, for who owns both: a newer insert or delete is handed on as it is, and takes no
-/// memory.
+/// As `combine`, for a caller that owns both messages: a newer insert or delete is moved, and takes no memory.
 pub fn combine_owned<L: MergeLaw>(
     alloc: Global,
     law: &L,
@@ -77,7 +76,7 @@ pub fn combine_owned<L: MergeLaw>(
     }
 }
 
-/// What the message makes of no value, where there is a message. Only an update takes memory.
+/// The value that the message leaves for a key without a value, if there is a message. Only an update takes memory.
 pub fn settle<L: MergeLaw>(
     alloc: Global,
     law: &L,

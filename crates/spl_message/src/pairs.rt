@@ -25,7 +25,7 @@ impl Model for Pairs {
 }
 
 impl Pairs {
-    /// These pairs, which takes no memory.
+    /// Wraps these pairs. It takes no memory.
     pub fn of(pairs: Vec<(Key, Value)>) -> Pairs
         requires { AreInOrder pairs.items }
         ensures { result ≡ pairs.items }
@@ -41,7 +41,7 @@ impl Pairs {
         self.pairs.as_slice()
     }
 
-    /// The pairs in a `Vec` again, which takes no memory.
+    /// The pairs as a `Vec`. It takes no memory.
     pub fn into_vec(self) -> Vec<(Key, Value)>
         ensures value { result.items ≡ self }
         ensures in_order { AreInOrder self }

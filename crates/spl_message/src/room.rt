@@ -1,4 +1,4 @@
-//! Bytes that stand in a value itself, in a room of fixed size.
+//! Bytes that are stored inline, in a room of fixed size.
 ghost use Rattle.std.specs.Prelude.{◌≡◌, ◌+◌, ◌<◌, ◌≤◌, length, take, drop, All};
 ghost use Rattle.std.specs.Cmp.Lexicographic.{slice_cmp};
 ghost use Rattle.std.specs.Ordering.{nat_cmp};
@@ -27,7 +27,7 @@ pub fn room_of<const N: usize>(bytes: &[u8]) -> [u8; N]
     room
 }
 
-/// How the bytes at the front of a room compare to those of another as large, where zeros stand behind both.
+/// How the bytes at the front of a room compare to those of another of the same size. Behind both are zeros.
 #[inline]
 pub fn compare<const N: usize>(room: &[u8; N], len: u8, other: &[u8; N], other_len: u8) -> Ordering
     requires room { IsRoom N room.now len }
@@ -37,7 +37,7 @@ pub fn compare<const N: usize>(room: &[u8; N], len: u8, other: &[u8; N], other_l
     compare_bytes(room, other).then(len.cmp(&other_len))
 }
 
-/// How bytes compare to as many others, of which eight are compared at a time.
+/// How bytes compare to as many others, eight at a time.
 #[inline]
 fn compare_bytes(bytes: &[u8], others: &[u8]) -> Ordering
     requires { length bytes.now ≡ length others.now }
@@ -53,7 +53,7 @@ fn compare_bytes(bytes: &[u8], others: &[u8]) -> Ordering
     bytes[8 * words..].cmp(&&others[8 * words..])
 }
 
-/// The eight bytes from the place on, as the number that they write with the highest first.
+/// The eight bytes from the place on, as a big-endian number.
 #[inline]
 fn word_at(bytes: &[u8], place: usize) -> u64
     requires { place + 8 ≤ length bytes.now }

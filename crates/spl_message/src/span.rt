@@ -6,8 +6,8 @@ use crate::bound::Bound;
 use crate::key::Key;
 use std::cmp::Ordering;
 
-/// The keys from a start, which is included, to an end, which is not. A side that is `None` is open and excludes nothing. A
-/// span may be empty.
+/// The keys from an inclusive start to an exclusive end. A side that is `None` is open and excludes nothing. A span may
+/// be empty.
 #[derive(Clone, Copy, Debug, PartialEq, Eq)]
 pub struct Span {
     pub from: Option<Key>,

@@ -1,7 +1,10 @@
-//! A node of the trunk: pivots that part its range among children, and the bundles that are on their way to them.
+//! A node of the trunk: pivots that divide its range among children, and the bundles that wait to be flushed to them.
 //!
-//! A bundle is live for a pivot whose mark is at most its number. All space is reserved when a node is made, so only
-//! the calls that make one, and `live`, take memory.
+//! Each pivot has the key at which its part of the range starts, the number of its child, and a mark. A bundle is live
+//! for a pivot if the pivot's mark is at most the bundle's number; a flush to a child raises its pivot's mark. A bundle
+//! that is live for no pivot can be dropped (`trim`).
+//!
+//! All space is reserved when a node is made, so only the calls that make one, and `live`, take memory.
 #![tactic(auto)]
 
 mod node;

@@ -101,7 +101,7 @@ impl Node {
         self.body.height
     }
 
-    /// The keys of the node.
+    /// The range of the node's keys.
     pub fn range(&self) -> &Span
         ensures { result.now ≡ self.now.range }
     {
@@ -256,7 +256,7 @@ impl Node {
         ensures accepted { IsOk result
             ↔ ((length self.old.lists.bundles < MAX_LISTS) × (length list.now ≤ MAX_BRANCHES)) }
 
-        // That there are too many bundles is said first.
+        // A full node is reported first.
         ensures lists { length self.old.lists.bundles ≡ MAX_LISTS → result ≡ Err (Limit.Lists MAX_LISTS) }
         ensures branches { length self.old.lists.bundles < MAX_LISTS → MAX_BRANCHES < length list.now
             → result ≡ Err (Limit.Branches (min (length list.now) u32.MAX)) }
@@ -265,8 +265,8 @@ impl Node {
         self.body.lists.push(list)
     }
 
-    /// Merges the bundles from `first` up to `last`: the last holds the output alone, or nothing, the others
-    /// are empty, and none of them keeps its mark. Those that no longer stand are passed over.
+    /// Merges the bundles from `first` up to `last`: the last holds the output alone, or nothing, the others are empty,
+    /// and none of them keeps its mark. Numbers of dropped bundles are skipped.
     pub fn merge(&mut self, first: u64, last: u64, output: Option<u64>)
         requires in_order { first ≤ last }
         requires stands { self.old.lists.first ≤ last }
@@ -276,8 +276,8 @@ impl Node {
         self.body.lists.merge(first, last, output);
     }
 
-    /// Gives the bundles from `first` up to `last` the mark of an actor, or none. Those that no longer stand
-    /// are passed over.
+    /// Gives the bundles from `first` up to `last` the mark of an actor, or none. Numbers of dropped bundles are
+    /// skipped.
     pub fn set_ticket(&mut self, first: u64, last: u64, actor: Option<u32>)
         requires in_order { first ≤ last }
         requires stands { self.old.lists.first ≤ last }
@@ -294,7 +294,7 @@ impl Node {
         self.body.lists.release(actor);
     }
 
-    /// The part of a split from the key on.
+    /// The right part of a split: the keys from this one on.
     pub fn right(&self, alloc: Global, key: &Key) -> Result<Node, NoMemory>
         requires { IsSplitKey self.now key.now }
         ensures value { IfOk result (λ node. node ≡ right_of self.now key.now) }
@@ -327,7 +327,7 @@ impl Node {
         right
     }
 
-    /// Leaves the part of a split below the key.
+    /// Keeps the left part of a split: the keys below this one.
     pub fn keep_left(&mut self, key: &Key)
         requires key { IsSplitKey self.old key.now }
         requires generation { self.old.generation < 2 ^ 63 }
@@ -356,7 +356,7 @@ impl Node {
         count
     }
 
-    /// The node that a raised root leaves below it: an equal one, with the generation 0.
+    /// A copy of the node with the generation 0, to be the child of a raised root.
     pub fn lower(&self, alloc: Global) -> Result<Node, NoMemory>
         ensures { IfOk result (λ node. node ≡ lowered self.now) }
     {
@@ -424,7 +424,7 @@ fn is_passed(pivots: &[Pivot], at: usize, key: &Key) -> bool
     at < pivots.len() && pivots[at].starts_below(key)
 }
 
-/// Whether a trim drops the bundle, where it drops those in front.
+/// Whether a trim that drops the bundles in front of this one drops it too.
 fn is_dropped(lists: &Bundles, number: u64, least: u64) -> bool
     requires stands { lists.now.first ≤ number }
     requires made { number < next_of lists.now }

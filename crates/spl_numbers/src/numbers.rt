@@ -41,7 +41,7 @@ impl Model for Numbers {
 }
 
 impl Numbers {
-    /// No number, of those below the limit.
+    /// An empty set of numbers below the limit.
     pub fn new(alloc: Global, limit: u32) -> Result<Numbers, NoMemory>
         requires { limit ≤ LIMIT }
         ensures { IfOk result (λ numbers. numbers ≡ replicate limit false) }
@@ -58,7 +58,7 @@ impl Numbers {
         })
     }
 
-    /// The numbers are below this one.
+    /// The limit: all numbers of the set are below it.
     pub fn limit(&self) -> u32
         ensures { result ≡ length self.now }
     {

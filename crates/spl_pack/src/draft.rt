@@ -1,4 +1,4 @@
-//! The end of a job that packs: its branch is published, and then hung at the root.
+//! How a job that packs ends: its branch is published, and then hung at the root.
 ghost use Rattle.std.specs.Prelude.{◌≡◌, ◌≢◌, ℕ, ◌<◌, ◌↔◌, Some, true, IsTrue, length};
 ghost use Rattle.spl_base.specs.declared.TheConstants.{ACTORS};
 ghost use Rattle.spl_extent.specs.Pool.{granted_to};
@@ -24,7 +24,8 @@ use std::sync::Arc;
 
 const ROOT: u32 = 0;
 
-/// Publishes the branch of the actor's job, which has the job's number and lies in the extents that the actor was granted.
+/// Publishes the branch of the actor's job, which has the job's number and lies in the extents that the actor was
+/// granted.
 pub fn publish<B: Content>(parts: &mut Parts<B>, actor: u32, branch: Arc<B>) -> Reply<B>
     requires known { actor < ACTORS }
     ensures unfit { (result ≡ Reply.Unfit (state_of parts.old actor))
@@ -93,7 +94,7 @@ fn hold_all(pool: &mut Pool, actor: u32, extents: &[u32], branch: u64)
     }
 }
 
-/// Hangs the branch that the actor packed at the root, as its newest bundle, in the place of the oldest frozen memtable.
+/// Hangs the branch that the actor packed at the root, as its newest bundle. It replaces the oldest frozen memtable.
 pub fn incorporate<B: Content>(parts: &mut Parts<B>, actor: u32) -> Reply<B>
     requires known { actor < ACTORS }
     requires fresh { AreBelow parts.old.nodes parts.old.tables parts.old.counters }
@@ -130,7 +131,7 @@ struct Packed {
     table: u64,
 }
 
-/// What the actor packed, where it published that and writes the root.
+/// What the actor packed, if it published that and writes the root.
 fn ready<B: Content>(parts: &Parts<B>, actor: u32) -> Option<Packed>
     requires { actor < ACTORS }
     ensures { result ≡ ready_in parts.now actor }
@@ -148,7 +149,7 @@ fn ready<B: Content>(parts: &Parts<B>, actor: u32) -> Option<Packed>
     }
 }
 
-/// The oldest frozen memtable, where it is another than this one.
+/// The oldest frozen memtable, if it is not this one.
 fn older_than(tables: &Memtables, table: u64) -> Option<Oldest>
     requires { 0 < length tables.now.frozen }
     ensures { result ≡ older_than tables.now.frozen table }

@@ -1,4 +1,4 @@
-//! The begin of a job: the memtable that it packs, and the extents that it writes.
+//! How a job begins: the memtable that it packs, and the extents that it writes.
 ghost use Rattle.std.specs.Prelude.{◌≡◌, ◌≢◌, ℕ, ◌<◌, Some, true};
 ghost use Rattle.spl_base.specs.declared.TheConstants.{ACTORS};
 ghost use Rattle.spl_message.specs.Rule.{Rule};

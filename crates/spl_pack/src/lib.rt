@@ -1,8 +1,8 @@
-//! The steps that make a branch of a frozen memtable: an actor picks it, is granted extents, publishes the branch that it
-//! wrote there, and hangs that branch at the root in the place of the memtable.
+//! The steps that make a branch of a frozen memtable: an actor picks it, is granted extents, publishes the branch that
+//! it wrote there, and hangs that branch at the root, where it replaces the memtable.
 //!
-//! Each step is one function. It says what it answers, by its causes in their one order, what it makes of the state, and
-//! what it leaves to everybody else.
+//! Each step is one function. Its contract says which cause decides its answer, in a fixed order, what it makes of the
+//! state, and what it keeps for all other actors.
 #![tactic(auto)]
 
 mod draft;

@@ -17,7 +17,7 @@ pub enum AnyPage {
 }
 
 impl AnyPage {
-    /// The page that the bytes are, if they are a page for the place. Bytes that are none are always refused as damaged.
+    /// The page with these bytes, if they are the page of the place. Other bytes are always refused as damaged.
     pub fn check(alloc: Global, bytes: PageBytes, at: At) -> Result<AnyPage, PageFault>
         ensures ok { IfOk result (λ page. shown_of page ≡ record { at = at; bytes = bytes }) }
         ensures sound { OnOk result (page_fault at bytes ≡ None) }
@@ -53,14 +53,14 @@ impl AnyPage {
     }
 }
 
-/// Whether the bytes are a page for the place. It takes no memory.
+/// Whether the bytes are the page of the place. It takes no memory.
 pub fn page_ok(bytes: &[u8; PAGE_BYTES], at: At) -> bool
     ensures { IsTrue result ↔ (page_fault at bytes.now ≡ None) }
 {
     fault_of(bytes, at).is_none()
 }
 
-/// The first reason why the bytes are no page for the place.
+/// The first reason why the bytes are not the page of the place.
 pub(crate) fn fault_of(bytes: &[u8; PAGE_BYTES], at: At) -> Option<Why>
     ensures { result ≡ page_fault at bytes.now }
 {

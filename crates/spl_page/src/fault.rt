@@ -7,10 +7,10 @@ use std::alloc::AllocError;
 use std::error::Error;
 use std::fmt;
 
-/// Why a page is not read.
+/// Why a page can't be read.
 #[derive(Clone, Copy, Debug, PartialEq, Eq)]
 pub enum PageFault {
-    /// The bytes are no page for the place.
+    /// The bytes are not the page of the place.
     Damaged(Damaged),
     /// Memory ran out.
     NoMemory,

@@ -7,7 +7,7 @@ use crate::index_slot::IndexSlot;
 use crate::leaf_slot::LeafSlot;
 use crate::slot::Slot;
 
-/// What an entry of a page is.
+/// A kind of pages, by its entries.
 pub trait Form: Drop {
     /// The first byte of a page of this kind.
     const KIND: u8;

@@ -1,4 +1,4 @@
-//! What a page has around its entries: the first 16 bytes, which say what page it is, and the zeros behind.
+//! What a page has around its entries: a header of 16 bytes, which says what page it is, and zeros behind them.
 ghost use Rattle.std.specs.Prelude.{◌≡◌, ◌<◌, ◌≤◌, ◌^◌, ◌==◌, length};
 ghost use Rattle.std.specs.List.{list_all};
 ghost use Rattle.spl_port.specs.Page.{number_at, row_count};
@@ -7,7 +7,7 @@ ghost use Rattle.spl_page.specs.Frame.{found_fault, head_fault, head_text};
 use byteorder::{BigEndian, ByteOrder};
 use spl_port::{At, Why};
 
-/// How many bytes stand before the entries.
+/// The size of the header.
 pub(crate) const HEAD_BYTES: usize = 16;
 
 /// The first byte of a leaf page.
@@ -19,7 +19,7 @@ pub(crate) const INDEX_KIND: u8 = 0x49;
 /// The format of the pages.
 const FORMAT: u8 = 1;
 
-/// The first reason against the first bytes of a page of this kind.
+/// The first reason why the header is not that of a page of this kind.
 pub(crate) fn head_fault(kind: u8, at: At, bytes: &[u8]) -> Option<Why>
     requires { 16 ≤ length bytes.now }
     ensures { result ≡ head_fault kind at bytes.now }
@@ -58,7 +58,7 @@ fn branch_number(bytes: &[u8]) -> u64
     BigEndian::read_u64(&bytes[8..])
 }
 
-/// The first bytes of a page.
+/// The header of a page.
 pub(crate) fn write_head(kind: u8, count: u16, at: At) -> [u8; HEAD_BYTES]
     ensures bytes { result ≡ head_text kind count at }
     ensures page { at.page < 2 ^ 32 }
@@ -73,7 +73,7 @@ pub(crate) fn write_head(kind: u8, count: u16, at: At) -> [u8; HEAD_BYTES]
     head
 }
 
-/// The first reason against entries that are there, whose keys rise or do not, with these bytes behind them.
+/// The first reason against entries that were all read: keys out of order, or bytes behind them that are not 0.
 pub(crate) fn rows_fault(rising: bool, rest: &[u8]) -> Option<Why>
     ensures { result ≡ found_fault rising rest.now }
 {
@@ -86,7 +86,7 @@ pub(crate) fn rows_fault(rising: bool, rest: &[u8]) -> Option<Why>
     None
 }
 
-/// Whether there is nothing behind the entries.
+/// Whether the bytes behind the entries are all 0.
 fn is_zeros(bytes: &[u8]) -> bool
     ensures { result ≡ list_all (λ byte. byte == 0) bytes.now }
 {

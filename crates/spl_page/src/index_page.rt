@@ -19,11 +19,11 @@ use spl_port::{At, Damaged, PAGE_BYTES, PageBytes};
 use std::alloc::Global;
 use std::marker::Model;
 
-/// A list of children with their first keys, which rise. In a clause it is that list.
+/// A list of children with their first keys, in order. In a clause it is that list.
 #[derive(Debug, Drop)]
 pub struct IndexPage {
     entries: Vec<IndexEntry>,
-    /// How many bytes the entries take in a page, with the first 16. It stops at the type's end.
+    /// How many bytes the entries take in a page, with the header. Saturates at `usize::MAX`.
     bytes: usize,
 }
 
@@ -51,7 +51,7 @@ impl IndexPage {
         }
     }
 
-    /// Puts a child at the end.
+    /// Appends a child.
     pub fn push(&mut self, child: u32, first: &Key) -> Result<(), NoMemory>
         requires { IsTrue (is_rising (first_keys self.old ++ first.now ∷ [])) }
         ensures ok { OnOk result (self.new ≡ self.old ++ record { child = child; first = first.now } ∷ []) }
@@ -91,7 +91,7 @@ impl IndexPage {
         page.finish(at)
     }
 
-    /// The page that the bytes are, if they are an index page for the place.
+    /// The page with these bytes, if they are an index page for the place.
     pub fn read(alloc: Global, bytes: &[u8; PAGE_BYTES], at: At) -> Result<IndexPage, PageFault>
         requires { at.leaf ≡ false }
         ensures ok { IfOk result (λ page. IsIndexPage at bytes.now (index_rows_of page)) }
@@ -110,7 +110,7 @@ impl IndexPage {
     }
 }
 
-/// Puts the children into a page with none.
+/// Writes the children into an empty page.
 fn write_entries(page: &mut Writer<IndexForm>, entries: &[IndexEntry]) -> Result<(), NoMemory>
     requires empty { written_children page.old ≡ [] }
     requires rising { AreRising (child_keys (index_rows_of entries.now)) }

@@ -4,10 +4,10 @@ ghost use Rattle.spl_page.specs.IndexPage.{index_head};
 use byteorder::{BigEndian, ByteOrder};
 use spl_message::KEY_LIMIT;
 
-/// How many bytes of an entry stand before its key.
+/// How many bytes of an entry come before its key.
 pub(crate) const ENTRY_HEAD: usize = 5;
 
-/// An entry of an index page, where it stands in the page's bytes.
+/// An entry of an index page, as a view into the page's bytes.
 #[derive(Clone, Copy)]
 pub(crate) struct IndexSlot<'a> {
     /// The number of the child's page in the branch.

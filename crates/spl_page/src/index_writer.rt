@@ -16,7 +16,7 @@ use std::marker::Model;
 
 /// An index page that is written child by child into its bytes. In a clause it is the list of its children.
 ///
-/// It has memory for one page from the first child on, and gives that memory away as the page.
+/// It allocates one page at the first child, and returns that memory as the page.
 #[derive(Debug, Drop)]
 pub struct IndexWriter {
     page: Writer<IndexForm>,
@@ -58,7 +58,7 @@ impl IndexWriter {
         self.page.fits(entry_length(first))
     }
 
-    /// Puts a child at the end.
+    /// Appends a child.
     pub fn push(&mut self, child: u32, first: &Key) -> Result<(), NoMemory>
         requires rising { AreRising (child_keys (self.old ++ record { child = child; key = first.now } ∷ [])) }
         requires fits { children_length self.old + index_entry_length first.now ≤ 4096 }
@@ -83,7 +83,7 @@ impl IndexWriter {
     }
 }
 
-/// Puts a child at the end of a page.
+/// Appends a child to a page.
 pub(crate) fn push_child(
     page: &mut Writer<IndexForm>,
     child: u32,

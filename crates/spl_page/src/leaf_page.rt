@@ -19,11 +19,11 @@ use spl_port::{At, Damaged, PAGE_BYTES, PageBytes};
 use std::alloc::Global;
 use std::marker::Model;
 
-/// A list of keys with their messages. The keys rise. In a clause it is that list.
+/// A list of keys with their messages, in order. In a clause it is that list.
 #[derive(Debug, Drop)]
 pub struct LeafPage {
     entries: Vec<LeafEntry>,
-    /// How many bytes the entries take in a page, with the first 16. It stops at the type's end.
+    /// How many bytes the entries take in a page, with the header. Saturates at `usize::MAX`.
     bytes: usize,
 }
 
@@ -51,7 +51,7 @@ impl LeafPage {
         }
     }
 
-    /// Puts a key with a copy of the message at the end.
+    /// Appends a key with a copy of the message.
     pub fn push(&mut self, key: &Key, message: &Message) -> Result<(), NoMemory>
         requires { IsTrue (is_rising (leaf_keys self.old ++ key.now ∷ [])) }
         ensures ok { OnOk result (self.new ≡ self.old ++ record { key = key.now; message = message.now } ∷ []) }
@@ -92,7 +92,7 @@ impl LeafPage {
         page.finish(at)
     }
 
-    /// The page that the bytes are, if they are a leaf page for the place.
+    /// The page with these bytes, if they are a leaf page for the place.
     pub fn read(alloc: Global, bytes: &[u8; PAGE_BYTES], at: At) -> Result<LeafPage, PageFault>
         requires { at.leaf ≡ true }
         ensures ok { IfOk result (λ page. IsLeafPage at bytes.now (leaf_rows_of page)) }
@@ -111,7 +111,7 @@ impl LeafPage {
     }
 }
 
-/// Puts the entries into a page with none.
+/// Writes the entries into an empty page.
 fn write_entries(page: &mut Writer<LeafForm>, entries: &[LeafEntry]) -> Result<(), NoMemory>
     requires empty { leaf_rows_written page.old ≡ [] }
     requires rising { AreRising (map (λ row. row.key) (leaf_rows_of entries.now)) }

@@ -6,10 +6,10 @@ use crate::{LentMessage, LentValue};
 use byteorder::{BigEndian, ByteOrder};
 use spl_message::{KEY_LIMIT, VALUE_LIMIT};
 
-/// How many bytes of an entry stand before its key.
+/// How many bytes of an entry come before its key.
 pub(crate) const ENTRY_HEAD: usize = 4;
 
-/// An entry of a leaf page, where it stands in the page's bytes.
+/// An entry of a leaf page, as a view into the page's bytes.
 #[derive(Clone, Copy)]
 pub(crate) struct LeafSlot<'a> {
     pub(crate) key: &'a [u8],
@@ -57,7 +57,7 @@ impl<'a> LeafSlot<'a> {
         ENTRY_HEAD + self.key.len() + self.value.len()
     }
 
-    /// Its message, lent.
+    /// Its message, borrowed.
     pub(crate) fn message(&self) -> LentMessage<'a>
         ensures { message_lent result ≡ slot_message self.now }
     {

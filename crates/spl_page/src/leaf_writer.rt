@@ -18,7 +18,7 @@ use std::marker::Model;
 
 /// A leaf page that is written entry by entry into its bytes. In a clause it is the table of its entries.
 ///
-/// It has memory for one page from the first entry on, and gives that memory away as the page.
+/// It allocates one page at the first entry, and returns that memory as the page.
 #[derive(Debug, Drop)]
 pub struct LeafWriter {
     page: Writer<LeafForm>,
@@ -59,7 +59,7 @@ impl LeafWriter {
         self.fits_lent(key, LentMessage::of(message))
     }
 
-    /// The same of a message that is lent.
+    /// The same for a borrowed message.
     pub fn fits_lent(&self, key: &Key, message: LentMessage<'_>) -> bool
         ensures value { IsTrue result ↔ (table_length self.now + leaf_entry_length key.now (message_lent message.entry) ≤ 4096) }
         ensures short { leaf_entry_length key.now (message_lent message.entry) ≤ 580 }
@@ -67,7 +67,7 @@ impl LeafWriter {
         self.page.fits(entry_length(key, message))
     }
 
-    /// Puts a key with its message at the end.
+    /// Appends a key with its message.
     pub fn push(&mut self, key: &Key, message: &Message) -> Result<(), NoMemory>
         requires rising { AreEntries (self.old ++ (key.now, message.now) ∷ []) }
         requires fits { table_length self.old + leaf_entry_length key.now message.now ≤ 4096 }
@@ -77,7 +77,7 @@ impl LeafWriter {
         self.push_lent(key, LentMessage::of(message))
     }
 
-    /// Puts a key with its message, which is lent, at the end.
+    /// Appends a key with a borrowed message.
     pub fn push_lent(&mut self, key: &Key, message: LentMessage<'_>) -> Result<(), NoMemory>
         requires rising { AreEntries (self.old ++ (key.now, message_lent message) ∷ []) }
         requires fits { table_length self.old + leaf_entry_length key.now (message_lent message) ≤ 4096 }
@@ -102,7 +102,7 @@ impl LeafWriter {
     }
 }
 
-/// Puts a key with its message at the end of a page.
+/// Appends a key with its message to a page.
 pub(crate) fn push_entry(
     page: &mut Writer<LeafForm>,
     key: &Key,
@@ -130,7 +130,7 @@ pub(crate) fn entry_length(key: &Key, message: LentMessage<'_>) -> usize
     ENTRY_HEAD + key.bytes().len() + value_bytes(message).len()
 }
 
-/// The value that stands in a message.
+/// The bytes of the value in a message.
 fn value_bytes(message: LentMessage<'_>) -> &[u8]
     ensures value { result.now ≡ value_of (message_lent message.entry) }
     ensures short { length result.now ≤ 512 }

@@ -5,7 +5,7 @@ use crate::LentValue;
 use spl_message::{Message, NoMemory};
 use std::alloc::Global;
 
-/// A message whose value is lent.
+/// A message whose value is borrowed.
 #[derive(Clone, Copy, Debug)]
 pub enum LentMessage<'a> {
     Insert(LentValue<'a>),
@@ -14,7 +14,7 @@ pub enum LentMessage<'a> {
 }
 
 impl<'a> LentMessage<'a> {
-    /// The message itself, lent.
+    /// The message, borrowed.
     pub fn of(message: &'a Message) -> LentMessage<'a>
         ensures { message_lent result ≡ message.now }
     {

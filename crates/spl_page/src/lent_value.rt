@@ -3,7 +3,7 @@ ghost use Rattle.std.specs.Prelude.{◌≡◌, ◌≤◌, length, IfOk};
 use spl_message::{NoMemory, Value};
 use std::alloc::Global;
 
-/// The bytes of a value, at most 512, where they stand.
+/// The bytes of a value, at most 512, borrowed.
 #[derive(Clone, Copy, Debug)]
 pub struct LentValue<'a> {
     bytes: &'a [u8],

@@ -1,7 +1,12 @@
-//! The pages of a branch: lists of entries with rising keys, as bytes and back.
+//! The pages of a branch: lists of entries in the order of their keys, as bytes and back.
 //!
-//! A page that is read is checked against the page grammar of the place that it was asked for, so
-//! nothing of another place, and nothing damaged, gets past this crate.
+//! A page that is read is checked against the page grammar of its place (`AnyPage::check`), so no damaged page, and no
+//! page of another place, gets past this crate. A page that was checked is a `SoundPage`: binary search finds a key in
+//! it, without a copy and without an error. `LeafWriter` and `IndexWriter` write a page entry by entry; the list types
+//! `LeafPage` and `IndexPage` read and write whole pages.
+//!
+//! The format is drawn in `specs/Page.antt` of `spl_port`. The two kinds of pages share their code over the form of an
+//! entry (`Form`).
 #![tactic(auto)]
 
 mod any_page;

@@ -1,4 +1,4 @@
-//! The bytes of a page that is being written: room for the first 16, and the entries behind.
+//! The bytes of a page that is being written: space for the header, and the entries behind it.
 ghost use Rattle.std.specs.Prelude.{◌≡◌, ◌-◌, ◌≤◌, [], ◌++◌, length, drop, replicate, vec_len, IfOk, OnOk, OnErr};
 
 use crate::frame::HEAD_BYTES;
@@ -6,7 +6,7 @@ use spl_message::NoMemory;
 use spl_port::{PAGE_BYTES, PageBytes};
 use std::mem;
 
-/// Makes room for the first bytes, and for a page, where there is none yet.
+/// Allocates a page and leaves space for the header, if that is not done yet.
 pub(crate) fn begin_page(out: &mut Vec<u8>) -> Result<(), NoMemory>
     ensures ok { OnOk result (16 ≤ length out.new.items) }
     ensures entries { drop 16 out.new.items ≡ drop 16 out.old.items }
@@ -18,7 +18,7 @@ pub(crate) fn begin_page(out: &mut Vec<u8>) -> Result<(), NoMemory>
     Ok(())
 }
 
-/// Puts an entry's bytes at the end, behind room for the first bytes of the page.
+/// Appends an entry's bytes, behind the space for the header.
 pub(crate) fn append_entry(
     out: &mut Vec<u8>,
     head: &[u8],
@@ -33,7 +33,7 @@ pub(crate) fn append_entry(
     append(out, head, key, value)
 }
 
-/// Puts these bytes at the end, one after the other.
+/// Appends these bytes, one after the other.
 fn append(out: &mut Vec<u8>, head: &[u8], key: &[u8], value: &[u8]) -> Result<(), NoMemory>
     requires { length (head.now ++ (key.now ++ value.now)) ≤ 4096 }
     ensures ok { OnOk result (out.new.items ≡ out.old.items ++ (head.now ++ (key.now ++ value.now))) }
@@ -46,7 +46,7 @@ fn append(out: &mut Vec<u8>, head: &[u8], key: &[u8], value: &[u8]) -> Result<()
     Ok(())
 }
 
-/// The page of these first bytes and the entries, filled up with zeros. It is made of the bytes themselves.
+/// The page of this header and the entries, padded with zeros. It reuses the memory of the bytes.
 pub(crate) fn finish_page(out: &mut Vec<u8>, head: &[u8; HEAD_BYTES]) -> Result<PageBytes, NoMemory>
     requires begun { 16 ≤ length out.old.items }
     requires fits { length out.old.items ≤ 4096 }
@@ -61,7 +61,7 @@ pub(crate) fn finish_page(out: &mut Vec<u8>, head: &[u8; HEAD_BYTES]) -> Result<
     Ok(PageBytes::from_vec(bytes))
 }
 
-/// Puts these bytes in the place of the first ones.
+/// Writes the header.
 fn put_front(page: &mut [u8], head: &[u8; HEAD_BYTES])
     requires { 16 ≤ length page.old }
     ensures { page.new ≡ head.now ++ drop 16 page.old }

@@ -10,7 +10,8 @@ use spl_port::{At, Why};
 /// The greatest number of entries of a page: each has at least 5 bytes.
 pub(crate) const ENTRY_LIMIT: usize = 816;
 
-/// The first reason why the bytes are no page of this kind for the place. Where there is none, each entry's start is kept.
+/// The first reason why the bytes are not the page of the place, of this kind. If there is none, `starts` has where
+/// each entry starts.
 pub(crate) fn form_fault<F: Form>(bytes: &[u8], at: At, starts: &mut [u16]) -> Option<Why>
     requires page { length bytes.now ≡ 4096 }
     requires room { length starts.old ≡ 816 }
@@ -27,7 +28,7 @@ pub(crate) fn form_fault<F: Form>(bytes: &[u8], at: At, starts: &mut [u16]) -> O
     }
 }
 
-/// What a pass over the entries comes to.
+/// The result of a pass over the entries.
 #[derive(Drop)]
 struct Pass<'a> {
     /// Whether each key is above the one before it.

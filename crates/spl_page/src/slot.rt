@@ -1,6 +1,6 @@
 ghost use Rattle.std.specs.Prelude.{◌<◌, ◌≤◌, length};
 
-/// An entry where it stands in the bytes of a page: its key, and how many bytes it takes.
+/// An entry as a view into the bytes of a page: its key, and how many bytes it takes.
 #[derive(Clone, Copy)]
 pub struct Slot<'a> {
     pub(crate) key: &'a [u8],

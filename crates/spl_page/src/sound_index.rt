@@ -8,7 +8,7 @@ use crate::{IndexForm, SoundPage};
 use spl_message::{Bound, Key};
 
 impl SoundPage<IndexForm> {
-    /// The child under which the key belongs. There is none where the key is below the first keys of all children.
+    /// The child under which the key belongs. There is none if the key is below the first keys of all children.
     pub fn child(&self, key: &Key) -> Option<u32>
         ensures child { result ≡ child_for (children self.now.at.page self.now.bytes) key.now }
         ensures below { IfSome result (λ child. child < self.now.at.page) }

@@ -13,7 +13,7 @@ use spl_port::{At, Damaged, PAGE_BYTES, PageBytes};
 use std::alloc::Global;
 use std::marker::{Model, PhantomData};
 
-/// A page that was checked: its entries can be searched by halves. In a clause it is its place and its bytes.
+/// A page that was checked, so that a binary search finds its entries. In a clause it is its place and its bytes.
 #[derive(Debug, Drop)]
 pub struct SoundPage<F: Form> {
     at: At,
@@ -38,7 +38,7 @@ impl<F: Form> Model for SoundPage<F> {
 }
 
 impl<F: Form> SoundPage<F> {
-    /// The page that the bytes are, if they are a page of this kind for the place.
+    /// The page with these bytes, if they are the page of the place, of this kind.
     pub(crate) fn check(alloc: Global, bytes: PageBytes, at: At) -> Result<SoundPage<F>, PageFault>
         requires { at.leaf ≡ F.LEAF }
         ensures ok { IfOk result (λ page. page ≡ record { at = at; bytes = bytes }) }

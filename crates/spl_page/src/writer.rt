@@ -13,10 +13,10 @@ use std::marker::{Model, PhantomData};
 
 /// A page that is written entry by entry into its bytes. In a clause it is how many entries there are, and their bytes.
 ///
-/// It has memory for one page from the first entry on, and gives that memory away as the page.
+/// It allocates one page at the first entry, and returns that memory as the page.
 #[derive(Debug, Drop)]
 pub(crate) struct Writer<F: Form> {
-    /// Room for the first 16 bytes, and the entries; or nothing yet.
+    /// Space for the header, and the entries; or nothing yet.
     bytes: Vec<u8>,
     /// How many entries there are.
     count: u16,
@@ -66,7 +66,7 @@ impl<F: Form> Writer<F> {
         self.bytes.len().max(HEAD_BYTES) <= PAGE_BYTES - size
     }
 
-    /// Puts an entry at the end, whose bytes these are.
+    /// Appends an entry with these bytes.
     pub(crate) fn push(&mut self, head: &[u8], key: &[u8], value: &[u8]) -> Result<(), NoMemory>
         requires { IsNext F.entry F.entry_length F.entry_key F.size F.IsAt self.old
             (head.now ++ (key.now ++ value.now)) }

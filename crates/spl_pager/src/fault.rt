@@ -9,14 +9,14 @@ use std::alloc::AllocFailed;
 use std::error::Error;
 use std::fmt;
 
-/// Why a page is not given.
+/// Why `fetch` failed.
 #[derive(Clone, Copy, Debug, PartialEq, Eq)]
 pub enum FetchFault {
     /// The device failed.
     Failed,
-    /// The device gave bytes that are no page for the place.
+    /// The device gave bytes that are not the page of the place.
     Damaged(Damaged),
-    /// Memory ran out, or the port's count of reads has no greater value.
+    /// Memory ran out, or the port's count of reads is at its greatest value.
     NoMemory,
 }
 

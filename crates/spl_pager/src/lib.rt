@@ -1,4 +1,5 @@
-//! What stands between a branch and a device: a pager, which gives pages that were checked, shared.
+//! Pagers: they read the pages of branches from a port, check them, and return them as shared pointers. `Direct` reads
+//! each time; the cache of `spl_cache` keeps pages.
 #![tactic(auto)]
 
 mod direct;

@@ -12,10 +12,10 @@ use spl_port::{At, Port};
 use std::alloc::Global;
 use std::sync::Arc;
 
-/// What stands between a branch and a port, as a cache does.
+/// What reads the pages of branches from a port, as a cache does.
 pub trait Pager: Drop {
-    /// That a call of `fetch` which took a port's counts from the first ones to the second gave this page. Code that serves every
-    /// pager has this of a page only from such a call.
+    /// That a call of `fetch` gave this page, and took the port's counts from the first ones to the second. Generic
+    /// code has this fact only from such a call.
     ghost shows: { Self → Counts → Counts → Shown → Type 0 };
 
     /// The page at the place, by at most one read of the port.

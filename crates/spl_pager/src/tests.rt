@@ -11,8 +11,8 @@ use std::alloc::Global;
 use std::sync::Arc;
 use std::test::Fail;
 
-/// Writes a page, and fetches it. It stands for the layers above: where the port tells its pages, the page is the one that was
-/// written.
+/// Writes a page, and fetches it. It stands for the layers above: where the port tells its pages, the page is the one
+/// that was written.
 fn there_and_back<P: Port, G: Pager>(
     alloc: Global,
     port: &mut P,

@@ -36,6 +36,7 @@ impl Model for BlurPort {
 }
 
 impl BlurPort {
+    /// A device whose reads give this in place of the pages.
     pub fn new(alloc: Global, blur: Blur) -> BlurPort
         requires { IsBlur blur }
         ensures { result ≡ record { counts = no_counts; blur = blur } }

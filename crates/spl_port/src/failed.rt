@@ -1,7 +1,7 @@
 use std::error::Error;
 use std::fmt;
 
-/// The outside failed at a call. What it was is not told.
+/// A call to the outside failed. The reason is unknown.
 #[derive(Clone, Copy, Debug, PartialEq, Eq)]
 pub struct Failed;
 

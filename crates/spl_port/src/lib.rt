@@ -1,7 +1,14 @@
 //! The outside of the store, as its layers see it: streams of bytes, and devices of pages.
 //!
-//! Each side is a trait with a meaning and with a count of its own faults. A body can't raise that
-//! count by itself, so a clause that ties a refusal to a count that rose refuses a body that gives up.
+//! Each side is a trait (`Source`, `Sink`, `Port`) with a meaning that proofs see, and with a count of its own faults.
+//! Generic code can't raise that count by itself. So a body that just gives up does not meet a clause that allows a
+//! refusal only where the count rose.
+//!
+//! A thread has a `Port` of its own. It writes the pages of an extent as a draft and seals them. A sealed extent never
+//! changes, and any port of the same kind can read it. `TELLS` of a seal says whether reads are known to return the
+//! pages as written: those of `MemPort` are, those of `BlurPort` may return other bytes.
+//!
+//! `specs/Page.antt` defines which bytes are the page of a place. Ports do not check that; `spl_page` does.
 #![tactic(auto)]
 
 mod at;

@@ -7,7 +7,7 @@ use spl_base::NoMemory;
 use std::alloc::Global;
 use std::marker::Model;
 
-/// Pages in memory that are still written. In a clause it is its place and these pages.
+/// Pages in memory that are still being written. In a clause it is its place and these pages.
 #[derive(Debug, Drop)]
 pub struct MemDraft {
     extent: u32,

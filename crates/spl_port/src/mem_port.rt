@@ -15,8 +15,7 @@ use std::marker::Model;
 /// A device in memory that tells its pages. Its calls are `append`, `seal` and `read`, of which chosen
 /// ones fail.
 ///
-/// In a clause it is its counts, which calls are to fail, and how many were made. That number stands
-/// still at 2^64 - 1.
+/// In a clause it is its counts, which calls are to fail, and how many were made. That number saturates at 2^64 - 1.
 #[derive(Debug, Drop)]
 pub struct MemPort {
     alloc: Global,

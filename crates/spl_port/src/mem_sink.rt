@@ -8,7 +8,7 @@ use spl_base::NoMemory;
 use std::alloc::Global;
 use std::marker::Model;
 
-/// Bytes in memory as a sink, of which chosen writes fail. Its memory is taken at once.
+/// Bytes in memory as a sink, of which chosen writes fail. `new` allocates all its memory.
 ///
 /// In a clause it is the bytes that it holds, the room that is left, and the plan of its writes, which
 /// are its calls.
@@ -59,7 +59,7 @@ impl Sink for MemSink {
 
     ghost means = { λ s. output_of s };
 
-    /// Takes the first bytes that fit. None of some is a fault.
+    /// Takes the first bytes that fit. It is a fault if there are bytes and none fits.
     fn write(&mut self, piece: &[u8]) -> Result<usize, Failed>
         ensures refused { IsErr result ↔ IsTrue (refuses self.old piece.now) }
         ensures taken { IfOk result (λ n. n ≡ min (length piece.now) self.old.room) }

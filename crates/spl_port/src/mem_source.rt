@@ -10,8 +10,8 @@ use std::marker::Model;
 
 /// Bytes in memory as a source, of which chosen reads fail.
 ///
-/// In a clause it is the bytes that are left, the plan of its reads, which are its calls, and how many of them
-/// were made after one met the end of the bytes, where one did.
+/// In a clause it is the bytes that are left, the plan of its reads, which are its calls, and how many of them came
+/// after the one that met the end of the bytes, if one did.
 #[derive(Debug, Drop)]
 pub struct MemSource {
     bytes: Vec<u8>,

@@ -40,7 +40,7 @@ impl PageBytes {
         Ok(PageBytes { bytes })
     }
 
-    /// These bytes. It takes no memory.
+    /// A page of these bytes. It takes no memory.
     pub fn from_vec(bytes: Vec<u8>) -> PageBytes
         requires { vec_len bytes ≡ 4096 }
         ensures { result ≡ bytes.items }
@@ -48,6 +48,7 @@ impl PageBytes {
         PageBytes { bytes }
     }
 
+    /// The bytes of the page.
     pub fn bytes(&self) -> &[u8; PAGE_BYTES]
         ensures { result.now ≡ self.now }
     {

@@ -15,7 +15,7 @@ use std::fmt;
 pub enum PortFault {
     /// The device failed.
     Failed,
-    /// Memory ran out, or a count has no greater value.
+    /// Memory ran out, or a count is at its greatest value.
     NoMemory,
 }
 
@@ -56,10 +56,10 @@ impl<T: Drop> From<AllocFailed<T>> for PortFault {
 
 /// The device of one thread: it writes drafts page by page, seals them, and reads the pages of seals.
 ///
-/// A port keeps its allocator. Of its counts none ever falls. A call that succeeds leaves the count of faults, and one that fails
-/// raises it by at most one.
+/// A port keeps its allocator. None of its counts ever falls. A call that succeeds does not change the count of faults,
+/// and one that fails raises it by at most one.
 pub trait Port: Drop {
-    /// Pages that are still written.
+    /// Pages that are still being written.
     type Draft: Drop;
 
     type Seal: Seal;
@@ -70,7 +70,7 @@ pub trait Port: Drop {
     /// What a draft holds.
     ghost drafts: { Self.Draft → Sealed };
 
-    /// Begins to write the pages of an extent, which stand in the branch from page `first` on.
+    /// Begins to write the pages of an extent, which are the branch's pages from `first` on.
     fn begin(&mut self, extent: u32, branch: u64, first: u32) -> Self::Draft
         requires { first < 2 ^ 31 }
         ensures begun { drafts result ≡ empty_draft Self.Seal.TELLS extent branch first }
@@ -87,7 +87,7 @@ pub trait Port: Drop {
         ensures spent { IsSpent (counts self.old).writes → result ≡ Err PortFault.NoMemory }
         ensures cause { HasCause (counts self.old) (counts self.new) result };
 
-    /// Ends the draft. It is gone also where the call fails.
+    /// Seals the draft. The draft is gone even if the call fails.
     fn seal(&mut self, draft: Self::Draft) -> Result<Self::Seal, PortFault>
         ensures ok { IfOk result (λ seal. Self.Seal.means seal ≡ drafts draft) }
         ensures ok_faults { OnOk result ((counts self.new).faults ≡ (counts self.old).faults) }

@@ -5,7 +5,7 @@ use std::marker::Model;
 
 /// Which calls of something in memory are to fail, and how many were made and failed.
 ///
-/// Calls are numbered from 0 in the order in which they are made. Both counts stand still at 2^64 - 1.
+/// Calls are numbered from 0 in the order in which they are made. Both counts saturate at 2^64 - 1.
 #[derive(Debug, Drop)]
 pub(crate) struct Schedule {
     failing: CallNumbers,
@@ -34,7 +34,7 @@ impl Schedule {
         }
     }
 
-    /// Whether the call that is now made is to fail.
+    /// Whether the next call is to fail.
     pub(crate) fn fails(&self) -> bool
         ensures { result ≡ fails self.now }
     {

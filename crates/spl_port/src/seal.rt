@@ -8,8 +8,8 @@ use crate::{At, PAGE_BYTES};
 ///
 /// A seal may be read through any port of the same kind as the one that made it.
 pub trait Seal: Send + Sync + Drop {
-    /// Whether reads of its pages are known to give them as they were written. Each seal tells its places. There is no such
-    /// number at run time, so code that serves every device serves both kinds alike.
+    /// Whether reads are known to return its pages as written. There is no such value at run time, so code that serves
+    /// every device serves both kinds alike. Every seal tells its places.
     ghost TELLS: { Bool };
 
     /// What was sealed.
@@ -24,8 +24,7 @@ pub trait Seal: Send + Sync + Drop {
         requires { page < page_count (means self.now) }
         ensures { result ≡ place (means self.now) page };
 
-    /// Whether the bytes may be that page. It takes no memory. Of a page that is not told it may say
-    /// either.
+    /// Whether the bytes may be that page. It takes no memory. For a page that is not told either answer is right.
     fn vouches(&self, page: u32, bytes: &[u8; PAGE_BYTES]) -> bool
         ensures only { IsTrue result → Allows (means self.now) page bytes.now }
         ensures told { IfSome (means self.now).told (λ pages. slice_get pages page ≡ Some bytes.now → IsTrue result) };

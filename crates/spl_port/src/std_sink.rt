@@ -36,7 +36,7 @@ impl<X: Write + Drop> Sink for StdSink<X> {
 
     ghost means = { λ s. output_of s };
 
-    /// One write of the writer. Each of its errors is a fault, and so is a write of none of some bytes.
+    /// One write of the writer. Each of its errors is a fault, and so is a write that takes none of the bytes.
     fn write(&mut self, piece: &[u8]) -> Result<usize, Failed>
         ensures bytes { WriteAppends (X.contents (writer_of self.old)) (X.contents (writer_of self.new)) result piece.now }
 

@@ -4,7 +4,7 @@ ghost use Rattle.spl_port.specs.Counts.{raised_count, no_counts};
 use crate::{At, PAGE_BYTES};
 use std::marker::Model;
 
-/// The counts of a port, kept in place: no call on them takes memory.
+/// The counts of a port, stored inline: no call on them takes memory.
 #[derive(Debug, Drop)]
 pub struct Tally {
     faults: u64,
@@ -42,18 +42,21 @@ impl Tally {
         }
     }
 
+    /// How often the port failed.
     pub fn faults(&self) -> u64
         ensures { result ≡ self.now.faults }
     {
         self.faults
     }
 
+    /// How many pages were read.
     pub fn reads(&self) -> u64
         ensures { result ≡ self.now.reads }
     {
         self.reads
     }
 
+    /// How many pages were written.
     pub fn writes(&self) -> u64
         ensures { result ≡ self.now.writes }
     {

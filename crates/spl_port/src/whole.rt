@@ -9,7 +9,7 @@ use std::alloc::{AllocError, Global};
 use std::error::Error;
 use std::fmt;
 
-/// The bytes that one read asks for at most.
+/// How many bytes one read asks for at most.
 const PIECE: usize = 65536;
 
 /// Why an input could not be read to its end.
@@ -55,7 +55,7 @@ impl From<AllocError> for ReadFault {
 }
 
 #[tactic(auto, using(crate::proofs::BytesLemmas::takes_next))]
-/// Writes all of the text, in as many pieces as the sink takes it in.
+/// Writes all of the text, in as many pieces as the sink takes.
 pub fn write_whole<O: Sink>(out: &mut O, text: &[u8]) -> Result<(), Failed>
     ensures ok { OnOk result (Takes (O.means out.old).held (O.means out.new).held text.now) }
     ensures ok_count { OnOk result ((O.means out.new).faults ≡ (O.means out.old).faults) }

@@ -1,8 +1,8 @@
 //! The search for a remainder in a table.
 //!
 //! The home of a quotient is the position of the slot with its number. Its run may begin later, behind the runs of
-//! quotients before it, and the search sees one cluster alone: it goes back over the shifted slots to where the
-//! cluster starts, and counts the occupied homes on the way. The run that is sought has that number there, since runs
+//! quotients before it, and the search stays within one cluster: it goes back over the shifted slots to where the
+//! cluster starts, and counts the occupied homes on the way. The wanted run has that number in the cluster, since runs
 //! lie in the order of their homes.
 ghost use Rattle.std.specs.Prelude.{◌≡◌, ◌≤◌, ◌<◌, ◌+◌, suc, length, true, false};
 ghost use Rattle.spl_quotient.specs.Counts.{some_below};

@@ -56,8 +56,8 @@ pub(crate) fn in_order(mut spots: Vec<u64>) -> Vec<u64>
     spots
 }
 
-/// The place of the spot whose quotient is the farthest ahead of its place. No run of the spots before
-/// it reaches the slot of its quotient, even round the end of the table.
+/// The place of the spot whose quotient is the farthest ahead of its place. No run of the spots before it reaches the
+/// slot of its quotient, even around the end of the table.
 pub(crate) fn farthest_ahead(spots: &[u64]) -> usize
     ensures within { 0 < length spots.now → result < length spots.now }
     ensures farthest { (k : ℕ) → k < length spots.now

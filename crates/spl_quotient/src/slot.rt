@@ -34,7 +34,7 @@ impl Slot {
         Slot { bits }
     }
 
-    /// A slot that nothing lies in.
+    /// An empty slot.
     pub(crate) fn blank() -> Slot
         ensures { result ≡ blank }
     {

@@ -8,8 +8,8 @@ use spl_message::NoMemory;
 use std::alloc::Global;
 use std::marker::Model;
 
-/// A ring of slots. A position is counted from the slot with the number `origin`, and goes round at the
-/// end of the table; so that, where no run from before reaches that slot, all runs lie in order.
+/// A ring of slots. Positions are counted from the slot with the number `origin` and wrap around at the end of the
+/// table. If no earlier run reaches that slot, all runs lie in the order of their positions.
 #[derive(Debug, Drop)]
 pub(crate) struct Table {
     slots: Vec<Slot>,

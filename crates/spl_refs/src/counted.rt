@@ -1,7 +1,7 @@
 use spl_message::Content;
 use std::sync::Arc;
 
-/// A branch with the number of its holders.
+/// A branch with its reference count.
 #[derive(Drop)]
 pub struct Counted<B: Content> {
     pub branch: Arc<B>,

@@ -1,6 +1,7 @@
-//! The published branches of a store, each with a count of what names it.
+//! The published branches of a store, each with its reference count.
 //!
-//! A branch goes out, so that its extents can be freed, exactly when nothing names it any more.
+//! Bundles, the inputs of compactions and drafts refer to branches by their numbers. `let_go` returns a branch exactly
+//! when its last reference is dropped, so that its extents can be freed.
 #![tactic(auto)]
 
 mod counted;

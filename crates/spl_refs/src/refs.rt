@@ -9,8 +9,8 @@ use std::collections::BTreeMap;
 use std::marker::Model;
 use std::sync::Arc;
 
-/// The published branches by their numbers, each with a count: how often bundles, inputs of
-/// compactions and drafts name it. In a clause it is read by `held_at`.
+/// The published branches by their numbers, each with its reference count: how often bundles, inputs of compactions and
+/// drafts refer to it. In a clause it is read by `held_at`.
 ///
 /// Each call takes steps in the logarithm of the number of branches, and only `publish` takes memory.
 #[derive(Drop)]
@@ -94,7 +94,7 @@ impl<B: Content> Refs<B> {
         Some(&counted.branch)
     }
 
-    /// How often the branch of the number is named, and 0 where there is none.
+    /// The reference count of the branch, or 0 if there is none.
     #[tactic(auto, using(crate::proofs::Published::held_in))]
     pub fn count(&self, number: u64) -> u64
         ensures value { result ≡ count_at self.now number }

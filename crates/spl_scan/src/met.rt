@@ -8,7 +8,7 @@ use spl_message::{Bound, Key, Message, NoMemory, Span};
 use spl_page::{AnyPage, LeafForm, LentEntry, SoundPage};
 use std::alloc::Global;
 
-/// What is met from a place of a page on.
+/// What a scan finds from a place of a page on.
 #[derive(Debug, Drop)]
 pub(crate) enum Met {
     /// The next entry of the span, and the place behind it.

@@ -16,8 +16,8 @@ use std::alloc::Global;
 use std::marker::Model;
 use std::sync::Arc;
 
-/// The entries of a branch that lie in a span, one after the other. Clauses see what is still to come (`left_of`) and how
-/// many pages it may still read (`unread`).
+/// The entries of a branch that lie in a span, one after the other. Clauses see what is still to come (`left_of`) and
+/// how many pages it may still read (`unread`).
 #[derive(Drop)]
 pub struct Scan<S: Seal> {
     alloc: Global,
@@ -29,7 +29,7 @@ pub struct Scan<S: Seal> {
     begun: bool,
     /// The number of the leaf page that is read next.
     pages: u32,
-    /// The leaf page at hand, and a place in it.
+    /// The current leaf page, and a place in it.
     page: Option<Arc<AnyPage>>,
     place: usize,
 }
@@ -82,8 +82,8 @@ impl<S: Seal> Scan<S> {
         }
     }
 
-    /// The next entry of the span, or `None` at the end. After an error the scan stands where it stood. All calls together
-    /// read each leaf page at most once, beside the pages on the way to the first one.
+    /// The next entry of the span, or `None` at the end. After an error the scan is where it was before the call. All
+    /// calls together read each leaf page at most once, beside the pages on the way to the first one.
     pub fn next<P: Port<Seal = S>, G: Pager>(
         &mut self,
         port: &mut P,
@@ -162,7 +162,7 @@ impl<S: Seal> Scan<S> {
         }
     }
 
-    /// Takes the next entry of the page at hand.
+    /// Takes the next entry of the current page.
     fn look(&mut self) -> Result<Met, NoMemory>
         requires { self.old.begun ≡ true }
         ensures looks { IfOk result (λ met. Looks S.TELLS self.old met self.new) }

@@ -69,7 +69,7 @@ pub fn split<B: Content>(
     if nodes == MAX_NODES as u32 {
         return Reply::Nodes { nodes };
     }
-    // The new node names the branches of the bundles once more, so their counts need room for that.
+    // The new node adds references to the branches of the bundles, so their counts need room for that.
     if divide(alloc, &mut parts.trunk, parent, at, child, key).is_err() {
         return Reply::NoMemory;
     }

@@ -1,4 +1,4 @@
-//! The names that a new node gives to the branches of its bundles.
+//! The references of a new node to the branches of its bundles.
 ghost use Rattle.std.specs.Prelude.{ℕ, ◌<◌, ◌≤◌, ◌^◌};
 ghost use Rattle.spl_bundle.specs.Numbered.{names};
 ghost use Rattle.spl_refs.specs.Refs.{count_at};
@@ -9,7 +9,7 @@ use spl_bundle::Bundles;
 use spl_message::Content;
 use spl_refs::Refs;
 
-/// Names each branch of the bundles once more.
+/// Adds a reference to each branch of the bundles.
 pub(crate) fn name_again<B: Content>(refs: &mut Refs<B>, lists: &Bundles)
     requires stand { AreNamed refs.old (names lists.now) }
     requires few { (number : ℕ) → count_at refs.old number < 2 ^ 62 }
@@ -21,7 +21,7 @@ pub(crate) fn name_again<B: Content>(refs: &mut Refs<B>, lists: &Bundles)
     }
 }
 
-/// Names each branch of the list once more.
+/// Adds a reference to each branch of the list.
 fn name_list<B: Content>(refs: &mut Refs<B>, list: &[u64])
     requires stand { AreNamed refs.old list.now }
     requires room { HaveRoom refs.old list.now }

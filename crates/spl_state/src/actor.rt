@@ -8,16 +8,16 @@ use spl_base::{ACTORS, NoMemory};
 use std::alloc::Global;
 use std::marker::Model;
 
-/// What an actor is in the midst of.
+/// The state of an actor: its descent, its job, and of which nodes it was told.
 #[derive(Debug, Drop)]
 pub struct Actor {
-    /// Its descent, which ends before it has a job.
+    /// Its descent. It has no job meanwhile.
     pub descent: Option<Descent>,
     /// Its job.
     pub job: Option<Job>,
     /// Whether it published the branch of its job.
     pub published: bool,
-    /// One more than the greatest number of a node that an answer named to it, and at least 1.
+    /// One more than the greatest node number that an answer told it, and at least 1.
     pub told: u32,
 }
 

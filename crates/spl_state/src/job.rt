@@ -18,7 +18,7 @@ impl Model for Inputs {
 }
 
 impl Inputs {
-    /// These numbers, which takes no memory.
+    /// Wraps these numbers. It takes no memory.
     pub fn of(numbers: Vec<u64>) -> Inputs
         ensures { result ≡ numbers.items }
     {

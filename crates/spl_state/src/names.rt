@@ -1,4 +1,4 @@
-//! Names of branches that end: a branch that nothing names any more gives its extents back.
+//! How references to branches are dropped: a branch whose last reference is dropped frees its extents.
 ghost use Rattle.std.specs.Prelude.{◌≡◌, ℕ, ◌<◌, ◌≤◌, List, ◌∷◌, ◌++◌};
 ghost use Rattle.spl_extent.specs.Pool.{granted_to};
 ghost use Rattle.spl_refs.specs.Refs.{count_at, branch_at};
@@ -10,7 +10,7 @@ use spl_extent::Pool;
 use spl_message::Content;
 use spl_refs::Refs;
 
-/// Ends one of the names of the branch.
+/// Drops one reference to the branch, and frees its extents if that was the last.
 pub fn let_go<B: Content>(refs: &mut Refs<B>, pool: &mut Pool, number: u64)
     requires accounted { (rest : List ℕ) × AreAccounted B.extents (number ∷ rest) refs.old pool.old }
     ensures accounted { (rest : List ℕ) → AreAccounted B.extents (number ∷ rest) refs.old pool.old
@@ -24,7 +24,7 @@ pub fn let_go<B: Content>(refs: &mut Refs<B>, pool: &mut Pool, number: u64)
     }
 }
 
-/// Ends a name of each of the branches.
+/// Drops one reference to each of the branches.
 pub fn let_go_all<B: Content>(refs: &mut Refs<B>, pool: &mut Pool, numbers: &[u64])
     requires accounted { (rest : List ℕ) × AreAccounted B.extents (numbers.now ++ rest) refs.old pool.old }
     ensures accounted { (rest : List ℕ) → AreAccounted B.extents (numbers.now ++ rest) refs.old pool.old

@@ -24,15 +24,15 @@ use std::marker::Model;
 pub struct Parts<B: Content> {
     /// The nodes, and the bundles of branches in them.
     pub trunk: Trunk,
-    /// The branches that are named, by their numbers.
+    /// The published branches with their reference counts.
     pub refs: Refs<B>,
     /// Who has which grip on which node.
     pub holds: Holds,
-    /// Who has which extent.
+    /// The owner of every extent.
     pub pool: Pool,
     /// The latest messages.
     pub tables: Memtables,
-    /// What each actor is in the midst of.
+    /// The state of every actor.
     pub actors: Actors,
     pub counters: Counters,
 }
@@ -72,7 +72,7 @@ impl<B: Content> Parts<B> {
         })
     }
 
-    /// Counts one step more.
+    /// Counts one more step.
     pub fn count(&mut self)
         requires { self.old.counters.steps < 2 ^ 46 }
         ensures counted { self.new ≡ refused self.old }

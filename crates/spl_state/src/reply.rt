@@ -3,7 +3,7 @@ use crate::view::View;
 use spl_memtable::Slice;
 use spl_message::Content;
 
-/// What an actor has: what makes a step unfit for it.
+/// What an actor has, as the refusal `Unfit` shows it.
 #[derive(Clone, Copy, Debug, PartialEq, Eq)]
 pub struct ActorState {
     pub descent: bool,
@@ -40,23 +40,23 @@ pub enum Reply<B: Content> {
 
     /// The actor's own state is not the one that the step needs.
     Unfit { state: ActorState },
-    /// There are only so many nodes.
+    /// There is no such node: only so many exist.
     NoNode { nodes: u32 },
     /// Another actor's grip on the node forbids it.
     Again { node: u32, by: u32 },
     /// The node does not hold the run; the lowest-numbered node that does.
     Elsewhere { next: Option<u32> },
-    /// The run is empty, or not all there; its last number, and the node's first bundle.
+    /// The run is empty, or not all of it is there. With its last number, and the node's first bundle.
     Gone { last: u64, oldest: u64 },
     /// No pivot of the parent leads to the child.
     Moved { child: u32 },
     /// The key is no split point of the node.
     Outside,
-    /// The mark of the pivot to this child parts the run.
+    /// The mark of the pivot to this child is inside the run.
     Crossed { child: Option<u32>, mark: u64 },
     /// A bundle of the run carries this actor's mark.
     Busy { by: u32 },
-    /// This older frozen memtable stands, picked by this actor.
+    /// This older frozen memtable comes first. With the actor that picked it, if any.
     NotOldest { oldest: u64, by: Option<u32> },
     /// The active memtable has 1,024 other keys.
     MemFull,
@@ -66,7 +66,7 @@ pub enum Reply<B: Content> {
     FrozenFull,
     /// The descent is at a leaf.
     Leaf,
-    /// No frozen memtable is there that nobody picked.
+    /// There is no frozen memtable that nobody picked.
     Nothing,
     /// No extent is free.
     NoExtent,
@@ -74,7 +74,7 @@ pub enum Reply<B: Content> {
     NeedsFlush,
     /// The child has 24 bundles.
     NeedsRoom,
-    /// The list to be passed on has more than 32 branches.
+    /// The list to be flushed has more than 32 branches.
     NeedsCompact { branches: u32 },
     /// The parent has 16 pivots.
     Pivots { pivots: u32 },

@@ -20,7 +20,7 @@ impl<B: Content> Model for Branches<B> {
 }
 
 impl<B: Content> Branches<B> {
-    /// These branches, which takes no memory.
+    /// Wraps these branches. It takes no memory.
     pub fn of(branches: Vec<Arc<B>>) -> Branches<B>
         ensures { result ≡ map (λ branch. branch.value) branches.items }
     {

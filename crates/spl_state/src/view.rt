@@ -8,7 +8,7 @@ use std::marker::Model;
 #[derive(Clone, Copy, Debug, PartialEq, Eq)]
 pub struct BundleView {
     pub number: u64,
-    /// How many branches it names.
+    /// How many branches it has.
     pub branches: u32,
     /// The actor whose mark it carries.
     pub ticket: Option<u32>,
@@ -30,7 +30,7 @@ impl Model for PivotList {
 }
 
 impl PivotList {
-    /// These pivots, which takes no memory.
+    /// Wraps these pivots. It takes no memory.
     pub fn of(pivots: Vec<Pivot>) -> PivotList
         ensures { result ≡ pivots.items }
     {
@@ -61,7 +61,7 @@ impl Model for BundleViews {
 }
 
 impl BundleViews {
-    /// These bundles, which takes no memory.
+    /// Wraps these bundles. It takes no memory.
     pub fn of(bundles: Vec<BundleView>) -> BundleViews
         ensures { result ≡ bundles.items }
     {
@@ -84,7 +84,7 @@ pub struct View {
     pub generation: u64,
     pub pivots: PivotList,
     pub bundles: BundleViews,
-    /// The key at which the node is to be split, where it is to be.
+    /// The key at which the node is to be split, if it is to be split.
     pub split: Option<Key>,
     /// How many callers have not retired.
     pub running: u32,

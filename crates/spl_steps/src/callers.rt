@@ -1,4 +1,4 @@
-//! The end of a caller.
+//! How a caller retires.
 ghost use Rattle.std.specs.Prelude.{◌≡◌, ℕ, ◌<◌, true};
 ghost use Rattle.spl_base.specs.declared.TheConstants.{ACTORS};
 ghost use Rattle.spl_message.specs.Rule.{Rule};
@@ -11,7 +11,7 @@ use spl_base::ACTORS;
 use spl_message::Content;
 use spl_state::{ActorState, Parts, Reply};
 
-/// Counts one running caller less, where one still runs. The actor has nothing.
+/// Counts one running caller fewer, if one still runs. The actor must have nothing.
 pub fn retire<B: Content>(parts: &mut Parts<B>, actor: u32) -> Reply<B>
     requires known { actor < ACTORS }
     ensures answer { result ≡ retire_answer parts.old actor }

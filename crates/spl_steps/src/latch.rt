@@ -34,7 +34,7 @@ pub fn claim<B: Content>(parts: &mut Parts<B>, actor: u32, node: u32) -> Reply<B
     }
 }
 
-/// Makes the actor's claim on the node a write, where nobody reads it.
+/// Makes the actor's claim on the node a write, if nobody reads it.
 pub fn lock<B: Content>(parts: &mut Parts<B>, actor: u32, node: u32) -> Reply<B>
     requires known { actor < ACTORS }
     ensures answer { result ≡ lock_answer parts.old actor node }

@@ -1,7 +1,8 @@
-//! The steps of the core that touch one part of the state: puts, the latches of the trunk, and the end of a caller.
+//! The steps of the core that change one part of the state: puts, the freezing of a memtable, the latches of the trunk,
+//! and the end of a caller.
 //!
-//! Each step is one function. It says what it answers, by its causes in their one order, what it makes of the state, and
-//! what it leaves to everybody else.
+//! Each step is one function. Its contract says which cause decides its answer, in a fixed order, what it makes of the
+//! state, and what it keeps for all other actors.
 #![tactic(auto)]
 
 mod callers;

@@ -52,7 +52,7 @@ pub fn put<B: Content, L: MergeLaw>(
     }
 }
 
-/// Freezes the active memtable, where it is full.
+/// Freezes the active memtable, if it is full.
 pub fn rotate<B: Content>(parts: &mut Parts<B>, actor: u32) -> Reply<B>
     requires counted { AreBelow parts.old.nodes parts.old.tables parts.old.counters }
     ensures not_full { (result ≡ Reply.NotFull) ↔ (key_count parts.old.tables.active < MEMTABLE_KEYS) }

@@ -9,7 +9,7 @@ use spl_message::{Content, Key, Span};
 use spl_node::Node;
 use spl_refs::Refs;
 
-/// The key at which the node is to be split, where it is to be.
+/// The key at which the node is to be split, if it is to be split.
 pub fn split_key<B: Content>(refs: &Refs<B>, node: &Node) -> Option<Key>
     ensures { result ≡ split_key (seen_in (branch_data B.extents B.entries B.cuts B.table) refs.now) node.now }
 {
@@ -39,7 +39,7 @@ fn leaf_split<B: Content>(refs: &Refs<B>, lists: &Bundles, range: &Span) -> Opti
     middle_inside(branch.cuts(), range)
 }
 
-/// The middle one of the cuts inside the range, where there are at least three.
+/// The middle one of the cuts inside the range, if there are at least three.
 fn middle_inside(cuts: &[Key], range: &Span) -> Option<Key>
     ensures { result ≡ middle (filter (is_inside range.now) cuts.now) }
 {

@@ -1,8 +1,8 @@
 //! The memtables of a store: the active one, which takes the writes, and up to four frozen ones.
 //!
-//! A full memtable is frozen with a number of its own, an actor picks it to make a branch of it, and
-//! the oldest goes when its branch is in the trunk. A frozen memtable is shared with whoever reads or
-//! packs it, and never copied.
+//! A full memtable is frozen with a number of its own, an actor picks it to make a branch of it, and the oldest is
+//! dropped when its branch is in the trunk. A frozen memtable is shared with whoever reads or packs it, and never
+//! copied.
 #![tactic(auto)]
 
 mod frozen_table;

@@ -24,12 +24,12 @@ const _: () = prove!(MEMTABLE_KEYS == 1024);
 /// The memtables of a store. In a clause it is plain data: the tables, and the numbers and picks of
 /// the frozen ones.
 ///
-/// Only `new`, `put`, `rotate` and `slices` take memory. `pick` fails only where a pointer has no room
-/// for another owner in its count.
+/// Only `new`, `put`, `rotate` and `slices` take memory. `pick` fails only if the count of a pointer's owners is at its
+/// greatest value.
 #[derive(Debug, Drop)]
 pub struct Memtables {
     active: Memtable,
-    /// The oldest first, with room for as many as there may be.
+    /// The oldest first, with space reserved for all four.
     frozen: Vec<FrozenTable>,
     next: u64,
     alloc: Global,
@@ -47,14 +47,14 @@ impl Model for Memtables {
     ghost invariant = { λ m. IsSound (data_of m.active m.frozen.items m.next) (vec_capacity m.frozen) };
 }
 
-/// What came of `rotate`.
+/// The result of `rotate`.
 #[derive(Clone, Copy, Debug, PartialEq, Eq)]
 pub enum Rotation {
     /// The active memtable is frozen, and a new one takes the writes.
     Rotated,
     /// The active memtable has room for another key.
     NotFull,
-    /// There are as many frozen memtables as there may be.
+    /// Four memtables are frozen already.
     FrozenFull,
 }
 
@@ -66,7 +66,7 @@ pub struct Oldest {
 }
 
 impl Memtables {
-    /// No keys and no frozen memtables.
+    /// The memtables of a new store: no keys, and nothing frozen.
     pub fn new(alloc: Global) -> Result<Memtables, NoMemory>
         ensures { IfOk result (λ memtables. memtables ≡ no_tables) }
     {
@@ -156,7 +156,7 @@ impl Memtables {
         Ok(Slices::of(slices))
     }
 
-    /// Lets the actor have the oldest frozen memtable that nobody picked, if there is one.
+    /// Gives the actor the oldest frozen memtable that nobody picked, if there is one.
     pub fn pick(&mut self, actor: u32) -> Result<Option<Picked>, NoMemory>
         ensures none { IfOk result (λ picked. IsNone picked ↔ IsNone (first_unpicked self.old.frozen)) }
         ensures unchanged { IsNone (first_unpicked self.old.frozen) → self.new ≡ self.old }
@@ -203,7 +203,7 @@ impl Memtables {
         self.frozen.remove(0);
     }
 
-    /// Lets what the actor picked be picked again.
+    /// Gives back what the actor picked, so that it can be picked again.
     pub fn release(&mut self, actor: u32)
         ensures { self.new ≡ without_picks self.old actor }
     {

@@ -21,7 +21,7 @@ impl Model for Slices {
 }
 
 impl Slices {
-    /// No parts, which takes no memory.
+    /// No parts. It takes no memory.
     pub fn empty(alloc: Global) -> Slices
         ensures { result ≡ [] }
     {

@@ -129,7 +129,7 @@ impl Trunk {
         ensures accepted { IsOk result
             ↔ ((length (lists_at self.old node).bundles < MAX_LISTS) × (length list.now ≤ MAX_BRANCHES)) }
 
-        // That there are too many bundles is said first.
+        // A full node is reported first.
         ensures lists { length (lists_at self.old node).bundles ≡ MAX_LISTS
             → result ≡ Err (Limit.Lists MAX_LISTS) }
         ensures branches { length (lists_at self.old node).bundles < MAX_LISTS

@@ -10,7 +10,7 @@ use crate::seat::{PlaceOf, Seat, SeatOf};
 use crate::stands_for::StandsFor;
 use crate::turn::{TableOf, Turn};
 
-/// Not all seats were gathered. All comes back.
+/// Not all seats were gathered. Everything is given back.
 #[derive(Drop)]
 pub struct Unclosed<V: StandsFor> {
     pub made: u32,
@@ -21,7 +21,8 @@ pub struct Unclosed<V: StandsFor> {
 }
 
 impl<V: StandsFor> Turn<V> {
-    /// Gives the value back where the seats are all that were made: the first one, and the others. Else it gives all back.
+    /// Gives the value back if the seats are all that were made: the first one, and the others. Else it gives
+    /// everything back.
     pub fn close(self, seat: SeatOf<V>, others: Vec<SeatOf<V>>) -> Result<V, Unclosed<V>>
         requires turn { IsSeatOf self seat }
         requires turns { All (IsSeatOf self) others.items }
@@ -86,7 +87,7 @@ fn with_the_first(others: usize) -> u32
     }
 }
 
-/// The value of a table, of which one place speaks for all seats.
+/// The value of a table, once one place stands for all seats.
 fn take_value<V: StandsFor>(table: TableOf<V>, place: PlaceOf<V>) -> V
     requires turn { (place.table_id ≡ table.shared.table_id) × (table.shared.table_id.slots ≡ 1) }
     requires first { (0 < place.me.0.made) × (place.me.0.seats ≡ place.me.0.made) × (length (sights place.me.0) ≡ place.me.0.made) × (place.me.0.stage ≡ Idle) }

@@ -15,7 +15,7 @@ pub type SlotOf<V> = Guarded<V, <V as StandsFor>::Step, <V as StandsFor>::Reply>
 /// What a seat of a turn knows.
 pub type KnownOf<V> = Known<<V as StandsFor>::Entry, <V as StandsFor>::Fixed>;
 
-/// All steps are one history, of which each seat has seen a front.
+/// All steps are one history, of which each seat has seen a prefix.
 pub struct OneHistory<V> {
     value: PhantomData<V>,
 }
@@ -80,7 +80,7 @@ impl<E, F> Split<Known<E, F>> for Another {
     ghost right = { another };
 }
 
-/// The first seat takes another in.
+/// The first seat takes in another one.
 pub(crate) struct Gather;
 
 impl<E, F> Join<Known<E, F>> for Gather {

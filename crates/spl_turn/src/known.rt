@@ -7,13 +7,13 @@ pub enum Stage {
     Holds,
 }
 
-/// A seat's number, and the front of the record that it has seen. No value of it is made.
+/// A seat's number, and the prefix of the record that it has seen. It exists in proofs alone.
 pub struct Sight<E> {
     pub number: u32,
     pub seen: LinkedList<E>,
 }
 
-/// What a seat knows. No value of it is made.
+/// What a seat knows. It exists in proofs alone.
 pub struct Known<E, F> {
     pub number: u32,
     pub seen: LinkedList<E>,

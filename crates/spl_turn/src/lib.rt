@@ -2,7 +2,7 @@
 //!
 //! `Turn` is a lock over the value. Each thread has a `Seat`. One call of `turn` makes one step on the value and adds
 //! one entry to the record of all steps, which exists in proofs alone. The value always stands for the whole record,
-//! and each seat has seen a front of it: a longer one after each of its turns, which ends with its own entry.
+//! and each seat has seen a prefix of it: a longer one after each of its turns, which ends with its own entry.
 //!
 //! The lock is one word, twice the number of entries, and one more while a turn is made. Fairness is not promised.
 //!

@@ -17,7 +17,7 @@ use std::snapshot::Snapshot;
 /// How many seats a turn has at most.
 const MOST_SEATS: u32 = 32;
 
-/// All seats were made that a turn can have.
+/// The turn has as many seats as it can have.
 #[derive(Clone, Copy, Debug, PartialEq, Eq)]
 pub struct Seats {
     pub made: u32,

@@ -6,9 +6,9 @@ pub trait StandsFor: Drop {
     type Step;
 
     type Reply;
-    /// An entry of the record. No value of it is made.
+    /// An entry of the record. It exists in proofs alone.
     type Entry;
-    /// The part of the value that no step changes. No value of it is made.
+    /// The part of the value that no step changes. It exists in proofs alone.
     type Fixed;
 
     ghost means: { Meaning Self Self.Step Self.Reply Self.Entry Self.Fixed };

@@ -83,7 +83,7 @@ impl<V: StandsFor> Turn<V> {
         }
     }
 
-    /// Takes the value if it is at home.
+    /// Takes the value if no seat has it.
     fn take(&self, place: &mut PlaceOf<V>) -> bool
         requires turn { place.old.table_id ≡ table_of self.now }
         requires ready { IsReady place.old.me }

@@ -1,4 +1,5 @@
-//! Measures a turn: `spl_turn_bench TURNS WORK`. Threads make so many turns in all, each a step of so many rounds of work.
+//! Measures a turn: `spl_turn_bench TURNS WORK`. Threads make so many turns in all, each a step of so many rounds of
+//! work.
 //!
 //! One line for each count of threads, in nanoseconds a turn. `bench/turn.cc` does the same steps under a `std::mutex`.
 #![tactic(auto)]
